@@ -1,0 +1,4 @@
+pub mod Numbering
+pub mod Soundness
+pub mod Layering
+pub mod Taking

@@ -1,0 +1,5 @@
+pub mod Meaning
+pub mod Changing
+pub mod Refusing
+pub mod Telling
+pub mod Owning
