@@ -13,6 +13,9 @@ use crate::owned::OwnedNetwork;
 use crate::building::BuildRefusal;
 use std::alloc::Global;
 
+// The most links that a network has.
+const MOST_LINKS: usize = 2048;
+
 impl OwnedNetwork {
     // A network of so many sites and no link yet.
     pub fn empty(heap: Global, sites: u16) -> Result<OwnedNetwork, BuildRefusal>
@@ -30,7 +33,7 @@ impl OwnedNetwork {
         ensures { λ r. ⌜ Added (owned-meaning (now (self .entry))) link r (owned-meaning (now (self .exit))) ⌝ }
     {
         let sites = self.sites;
-        if self.links.len() >= 2048 || !link.is_sound(sites) {
+        if self.links.len() >= MOST_LINKS || !link.is_sound(sites) {
             return Err(BuildRefusal::OutsideLimits);
         }
         match self.links.push(link) {

@@ -3,7 +3,7 @@ ghost use mathlib.Core.Path.{_≡_};
 ghost use Rattle.refusals.specs.Numbers.{number, value, rule};
 
 // A refusal, with the value it carries: the byte place of a record, a link, the two numbers of the hold that is handed back, or nothing.
-#[derive(Clone, Copy, PartialEq, Eq, Debug)]
+#[derive(Clone, Copy)]
 pub enum Refusal {
     CutShort { place: usize },
     WrongShape { place: usize },
@@ -27,7 +27,7 @@ pub enum Refusal {
 }
 
 // What a refusal carries.
-#[derive(Clone, Copy, PartialEq, Eq, Debug)]
+#[derive(Clone, Copy)]
 pub enum Carried {
     Place(usize),
     Link(u16),

@@ -1,0 +1,3 @@
+//! Tests of cost kinds on examples.
+#[cfg(test)]
+mod examples;
