@@ -8,19 +8,11 @@ use lib.Dec.{eqb}
 use Rattle.std.specs.shelf.Lists.{All}
 use Rattle.std.proofs.shelf.Tests.{eqb-true, eq-eqb}
 use Rattle.costs.specs.Costs.{Ops, Laws, Le, total}
+use Rattle.costs.specs.Counting.{hit, occurs}
 use Rattle.costs.proofs.Group.{plus-zero}
 use Rattle.costs.proofs.Order.{le-same, le-trans, le-plus-right}
 use Rattle.costs.proofs.Quoted.{group, quoting}
 use Rattle.costs.proofs.Totals.{total-least}
-
--- 1 where two numbers are equal, and 0 elsewhere
-abbrev pub hit : ℕ → ℕ → ℕ
-hit e x = cond (eqb e x) 1 0
-
--- how often a number stands in a list
-abbrev pub occurs : ℕ → List ℕ → ℕ
-occurs e [] = 0
-occurs e (x ∷ xs) = hit e x + occurs e xs
 
 -- a list with the first of a number left out
 abbrev pub without : ℕ → List ℕ → List ℕ

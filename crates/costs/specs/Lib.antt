@@ -3,3 +3,4 @@ pub mod Links
 pub mod Costs
 pub mod Lengths
 pub mod Pairs
+pub mod Counting
