@@ -41,10 +41,10 @@ fn work(rt: &LibcRuntime, network: OwnedNetwork) -> Result<(), AnyError> {
     println!(rt, "with link 0 closed and 300 metres on the last link")?;
     print_links(rt, &pile)?;
     take_all(rt, &mut pile)?;
-    println!(rt, "with a channel taken on each")?;
+    println!(rt, "after the takes")?;
     print_links(rt, &pile)?;
     give_all(rt, &mut pile)?;
-    println!(rt, "with the channels given back")?;
+    println!(rt, "after the gives")?;
     print_links(rt, &pile)
 }
 

@@ -15,6 +15,7 @@ impl<N: Network> Closing<N> {
     pub fn over(below: N) -> Closing<N>
         ensures below { λ r. ⌜ r .below ≡ below ⌝ }
         ensures nothing { λ r. ⌜ ((k : ℕ) → marks r k ≡ false) ⌝ }
+        ensures shows { λ r. ⌜ closed-over (marks r) (N·Network .meaning below) ≡ N·Network .meaning below ⌝ }
     {
         Closing { below, closed: [false; 2048] }
     }
@@ -90,7 +91,8 @@ pub impl<N: Network> Network for Closing<N> as ClosingIsNetwork {
         if link >= self.below.links() {
             return Err(NetworkRefusal::LinkTooHigh);
         }
-        if self.closed[link as usize] {
+        let closed = self.closed[link as usize];
+        if closed {
             return Err(NetworkRefusal::NotUsable);
         }
         self.below.take(link)

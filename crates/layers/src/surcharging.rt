@@ -15,10 +15,11 @@ use networks::network::Network;
 const MOST: u32 = 1_000_000;
 
 impl<N: Network> Surcharge<N> {
-    // A layer over a network, with every amount nought.
+    // A layer over a network, with every amount zero.
     pub fn over(below: N) -> Surcharge<N>
         ensures below { λ r. ⌜ r .below ≡ below ⌝ }
-        ensures nought { λ r. ⌜ ((k : ℕ) → amounts r k ≡ 0) ⌝ }
+        ensures zero { λ r. ⌜ ((k : ℕ) → amounts r k ≡ 0) ⌝ }
+        ensures shows { λ r. ⌜ charged-over (amounts r) (N·Network .meaning below) ≡ N·Network .meaning below ⌝ }
     {
         Surcharge { below, amounts: [0; 2048] }
     }

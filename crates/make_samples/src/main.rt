@@ -51,7 +51,12 @@ fn write(rt: &LibcRuntime, sample: Sample) -> Result<(), AnyError> {
 }
 
 fn run(rt: &LibcRuntime) -> Result<(), AnyError> {
-    let writes = env::args(rt)?.count() > 1;
+    let mut words = env::args(rt)?;
+    let _program = words.next();
+    let writes = match words.next() {
+        Some(word) => word.as_str() == "write",
+        None => false,
+    };
     for sample in Sample::ALL {
         if writes {
             write(rt, sample)?;

@@ -1,6 +1,6 @@
 // Why a network cannot be made or grow.
 ghost use mathlib.Core.Path.{_≡_};
-ghost use Rattle.networks.specs.Refusing.{build-refusal};
+ghost use Rattle.networks.specs.Refusing.{build-refusal, build-number};
 use refusals::Refusal;
 
 // A number is outside its limits, or memory is wanting; the second has no number.
@@ -18,6 +18,16 @@ impl BuildRefusal {
         match self {
             BuildRefusal::OutsideLimits => Some(Refusal::OutsideLimits),
             BuildRefusal::Memory => None,
+        }
+    }
+
+    // Its number in that list; want of memory has none.
+    pub fn number(self) -> Option<u8>
+        ensures { λ r. ⌜ r ≡ build-number self ⌝ }
+    {
+        match self.refusal() {
+            Some(refusal) => Some(refusal.number()),
+            None => None,
         }
     }
 }

@@ -26,13 +26,13 @@ returns-then-link-links g c =
       refused = λ e. refl;
     }
 
-pub returns-then-self-link : need.returns-then-self-link
-returns-then-self-link g c =
+pub returns-then-closed : need.returns-then-closed
+returns-then-closed g c =
     let self = c .args .self .now in
     let below = g .N·Network .meaning (self .below) in
     let inside : c .args .link < length (below .links) = subst (λ n. c .args .link < n) (c .links .ensures) (c .if-link-links .left) in
     let above : c .args .link < length (closed-over (marks self) below .links) = subst (λ n. c .args .link < n) (sym (length-numbered (closing (marks self)) 0 (below .links))) inside in
-    let dark : usable (link-at (closed-over (marks self) below) (c .args .link)) ≡ false = ap usable (link-at-changed (closing (marks self)) below (c .args .link) inside) ∙ dark-unusable (marks self (c .args .link)) (link-at below (c .args .link)) (c .if-self-link .taken) in
+    let dark : usable (link-at (closed-over (marks self) below) (c .args .link)) ≡ false = ap usable (link-at-changed (closing (marks self)) below (c .args .link) inside) ∙ dark-unusable (marks self (c .args .link)) (link-at below (c .args .link)) (c .if-closed .taken) in
     let answer = take-not-usable (closed-over (marks self) below) (c .args .link) above dark in
     record {
       answer = sym answer;
@@ -45,7 +45,7 @@ pub returns : need.returns
 returns g c =
     let self = c .args .self .now in
     let below = g .N·Network .meaning (self .below) in
-    let passed = take-passed (closing (marks self)) (λ h j l. refl) below (c .args .link) (λ inside. open-usable (marks self (c .args .link)) (link-at below (c .args .link)) (c .if-self-link .left)) in
+    let passed = take-passed (closing (marks self)) (λ h j l. refl) below (c .args .link) (λ inside. open-usable (marks self (c .args .link)) (link-at below (c .args .link)) (c .if-closed .left)) in
     record {
       answer = c .take .ensures .answer ∙ sym (passed .0);
       after = ap (changed (closing (marks self))) (c .take .ensures .after) ∙ sym (passed .1);
