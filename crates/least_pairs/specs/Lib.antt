@@ -5,3 +5,5 @@ pub mod Trees
 pub mod Plans
 pub mod Laws
 pub mod Rightness
+pub mod Sizing
+pub mod Theorems

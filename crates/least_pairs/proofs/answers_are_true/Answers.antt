@@ -1,0 +1,6 @@
+-- The theorem, as it is proved of the definitions.
+use Rattle.least_pairs.proofs.Proved.{answers-are-true}
+use Rattle.least_pairs.proofs.answers_are_true.Needs as need
+
+pub returns : need.returns
+returns g c = answers-are-true (g .C·Cost .ops) (g .C·Cost·met .lawful)
