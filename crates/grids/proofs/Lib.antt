@@ -1,2 +1,3 @@
+-- Lemmas about streets and whole grids.
 pub mod Pairs
 pub mod Whole

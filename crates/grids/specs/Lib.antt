@@ -1,1 +1,2 @@
+-- What the contracts cite: street grids.
 pub mod Streets

@@ -1,2 +1,3 @@
+-- Lemmas about a layer's table.
 pub mod Tables
 pub mod Bare

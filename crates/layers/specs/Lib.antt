@@ -1,2 +1,3 @@
+-- What the contracts cite: what layers show and refuse.
 pub mod Shown
 pub mod Refusing

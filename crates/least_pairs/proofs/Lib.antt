@@ -1,4 +1,4 @@
-pub mod Trial
+-- Lemmas and proofs about plannings.
 pub mod Listed
 pub mod Moments
 pub mod Older

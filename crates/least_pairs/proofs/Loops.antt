@@ -29,11 +29,6 @@ hit-once : (w a : ℕ) → hit w a ≤ 1
 hit-once w a = elim (eqb w a) as (λ b. cond b 1 0 ≤ 1) [ true ↦ omega arith | false ↦ omega arith ]
 
 module _ {C : Type 0} (v : View C) where
-  -- a walk and then another
-  pub walk-append : (a b c : ℕ) (xs ys : List ℕ) → Walk v a xs b → Walk v b ys c → Walk v a (xs ++ ys) c
-  walk-append a b c [] ys p q = subst (λ w. Walk v w ys c) (sym p) q
-  walk-append a b c (x ∷ xs) ys p q = (p .0, p .1, walk-append (v .end x) b c xs ys (p .2) q)
-
   -- a walk is cut where it visits a site
   pub visit : (w a b : ℕ) (es : List ℕ) → Walk v a es b → 1 ≤ occurs w (a ∷ ends v es) → (xs ys : List ℕ) × (es ≡ xs ++ ys) × Walk v a xs w × Walk v w ys b
   visit w a b [] p h =

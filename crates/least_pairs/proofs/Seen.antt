@@ -1,20 +1,19 @@
 -- The view of a sound network by a lawful cost kind is sound.
 use mathlib.Core.Path.{_≡_, refl, sym, ap, subst, _∙_}
-use mathlib.Core.Bool.{Bool, true, false, _&&_, not}
+use mathlib.Core.Bool.{true}
 use mathlib.Core.Logic.{⊎-elim}
 use Prim.Native.Nat.{ℕ, _<_, _≤_}
 use native.Mathlib.Omega.{arith}
-use lib.Dec.{ltb, eqb}
 use lib.ListN.{length, getD}
 use Rattle.std.proofs.shelf.Lists.{getD-past}
-use Rattle.std.proofs.shelf.Tests.{and-parts, cases-lt, both-ways, false≢true}
+use Rattle.std.proofs.shelf.Tests.{cases-lt, false≢true}
 use Rattle.costs.specs.declared.link.Lengths.{Lengths}
 use Rattle.costs.specs.Costs.{Ops, Laws, AboveZero, Le, Lt}
 use Rattle.costs.specs.Links.{Within}
 use Rattle.networks.specs.declared.model.Link.{Link}
 use Rattle.networks.specs.Meaning.{Net, Sound, link-at, link-sound, usable, no-link}
 use Rattle.networks.proofs.Soundness.{Limits, limits, sound-at}
-use Rattle.least_pairs.specs.Views.{View, view, without}
+use Rattle.least_pairs.specs.Views.{View, view}
 use Rattle.least_pairs.proofs.Sight.{Sound-view}
 
 -- a usable link of a network is one of its links
@@ -47,15 +46,3 @@ module _ {C : Type 0} {k : Ops C} (laws : Laws k) (n : Net) (s : Sound n) where
 -- a usable link costs more than zero, where the kind says so
 pub cost-above : {C : Type 0} (k : Ops C) → AboveZero k → (n : Net) → Sound n → (e : ℕ) → view k n .usable e ≡ true → Lt k (k .zero) (view k n .cost e)
 cost-above k above n s e h = above (record { metres = link-at n e .metres; poles = link-at n e .poles }) (within-lengths (n .sites) (link-at n e) (usable-limits n s e h))
-
--- a sound view with one link left out is sound
-pub without-sound : {C : Type 0} {k : Ops C} {v : View C} → Sound-view k v → (f : ℕ) → Sound-view k (without f v)
-without-sound {v = v} s f =
-    let still : (e : ℕ) → without f v .usable e ≡ true → v .usable e ≡ true = λ e h. and-parts (v .usable e) (not (eqb e f)) h .0 in
-    record {
-      link = λ e h. s .link e (still e h);
-      start = λ e h. s .start e (still e h);
-      end = λ e h. s .end e (still e h);
-      apart = λ e h. s .apart e (still e h);
-      least = λ e h. s .least e (still e h);
-    }

@@ -1,3 +1,4 @@
+-- What plannings are and what is proved of them.
 pub mod Views
 pub mod Routes
 pub mod Runs

@@ -1,3 +1,4 @@
+-- Lemmas about lists of links, soundness, layers and takes.
 pub mod Numbering
 pub mod Soundness
 pub mod Layering

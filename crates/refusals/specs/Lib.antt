@@ -1,1 +1,2 @@
+-- What the contracts cite: the list of all refusals.
 pub mod Numbers

@@ -1,0 +1,2 @@
+-- The examples, computed.
+pub mod Computed

@@ -1,0 +1,2 @@
+-- What the crate's contract cites.
+pub mod Table
