@@ -9,7 +9,7 @@ use lib.Dec.{eqb}
 use Rattle.std.specs.declared.option.Option.{Option}
 use Rattle.std.specs.declared.option.Option.the-variants.{Some, None}
 use Rattle.std.proofs.shelf.Tests.{cases-eq, cond-true, cond-false, eq-eqb, ne-eqb}
-use Rattle.costs.specs.Costs.{Ops, Laws, Le, Lt}
+use Rattle.costs.specs.Costs.{Ops, Laws}
 use Rattle.costs.specs.Counting.{occurs}
 use Rattle.least_pairs.specs.Views.{View, without}
 use Rattle.least_pairs.specs.Routes.{Route, Pair, pair-cost, Least-pair, No-route, Shared, First-shared}
@@ -23,8 +23,7 @@ use Rattle.least_pairs.proofs.Detours.{sound-without}
 use Rattle.least_pairs.proofs.Jobs.{first-laws, second-laws}
 use Rattle.least_pairs.proofs.Cutting.{not-reached, says-one-link}
 use Rattle.least_pairs.proofs.Balance.{pairs}
-use Rattle.least_pairs.proofs.Least.{says-pair}
-use Rattle.least_pairs.proofs.Loops.{short-route, swapped}
+use Rattle.least_pairs.proofs.Least.{says-pair, pair-short}
 
 -- an answer that is true comes exactly when it is
 pub exactly : {C : Type 0} (k : Ops C) (v : View C) (root target : ℕ) (a : Answer C) → Says k v root target a → Exactly v root target a
@@ -61,12 +60,20 @@ module _ {C : Type 0} {k : Ops C} (laws : Laws k) (v : View C) (sight : Sound-vi
       let second = second-run k v root first in
       says-answered target apart first second fl (second-laws laws v sight root inside first fl) (first .labels target) (second .labels target) refl refl
 
-  -- where costs are above zero, no route of an answered pair visits a site twice
-  pub no-site-twice : ((e : ℕ) → v .usable e ≡ true → Lt k (k .zero) (v .cost e)) → (target : ℕ) → (root ≡ target → ⊥) → (a : Answer C) → Says k v root target a → No-site-twice v root a
-  no-site-twice above target apart no-route h = tt
-  no-site-twice above target apart (one-link e) h = tt
-  no-site-twice above target apart (pair x y z) h =
-      (short-route laws sight above root target x y inside apart (h .0), short-route laws sight above root target y x inside apart (swapped laws sight above root target x y (h .0)))
+  -- no route of a pair that the two runs left visits a site twice
+  short-answered : (target : ℕ) → (root ≡ target → ⊥) → (first second : State C) (fl : Run-laws k (first-job v) root first) (sl : Run-laws k (second-job k v root first) root second) (a b : Option (Label C)) → first .labels target ≡ a → second .labels target ≡ b → No-site-twice v root (answered k v root target first second a b)
+  short-answered target apart first second fl sl None b ha hb = tt
+  short-answered target apart first second fl sl (Some d) None ha hb = tt
+  short-answered target apart first second fl sl (Some d) (Some l) ha hb = pair-short laws v sight fl sl target (λ e. apart (sym e)) d l ha hb
+
+  -- no route of an answered pair visits a site twice
+  pub no-site-twice : (target : ℕ) → (root ≡ target → ⊥) → No-site-twice v root (answer k v root target)
+  unfolding answer
+  no-site-twice target apart =
+      let first = first-run k v root in
+      let fl = first-laws laws v sight root inside in
+      let second = second-run k v root first in
+      short-answered target apart first second fl (second-laws laws v sight root inside first fl) (first .labels target) (second .labels target) refl refl
 
   -- an entry made from a true answer is right
   entry-says : (w : ℕ) (a : Answer C) → Says k v root w a → Right-entry k v root w (entry-of a)

@@ -1,33 +1,35 @@
 -- The flow of two from the root to a target that the second run's labels give, and the pair read from it.
 use mathlib.Core.Path.{_≡_, refl, sym, ap, subst, _∙_}
-use mathlib.Core.Bool.{true, false, _&&_, _||_, not}
+use mathlib.Core.Bool.{Bool, true, false, _&&_, _||_, not}
 use mathlib.Core.Logic.{_⊎_, inl, inr}
 use mathlib.Core.List.{List, [], _∷_, _++_, map, append-assoc}
-use Prim.Native.Nat.{ℕ, _+_, _≤_}
+use Prim.Native.Nat.{ℕ, _+_, _≤_, _<_}
 use native.Mathlib.Omega.{arith}
 use lib.Dec.{eqb}
 use Rattle.std.specs.declared.option.Option.the-variants.{Some}
-use Rattle.std.proofs.shelf.Tests.{eqb-true, both-ways, cases-eq, and-parts, or-cases, not-true}
+use Rattle.std.proofs.shelf.Tests.{cases-bool, eqb-true, both-ways, cases-eq, and-parts, or-cases, not-true}
 use Rattle.costs.specs.Costs.{Ops, Laws, Le, total}
 use Rattle.costs.specs.Counting.{hit, occurs}
-use Rattle.costs.proofs.Counted.{total-counted}
+use Rattle.costs.proofs.Counted.{hit-self, total-counted}
 use Rattle.costs.proofs.Order.{le-trans, le-same}
 use Rattle.costs.proofs.Quoted.{group, quoting}
 use Rattle.costs.proofs.Totals.{total-append, total-plus, total-negation, total-map}
 use Rattle.least_pairs.specs.Views.{View}
 use Rattle.least_pairs.specs.Routes.{Pair, pair-cost}
-use Rattle.least_pairs.specs.Runs.{Label, Job, State, has}
-use Rattle.least_pairs.specs.Trees.{joined}
+use Rattle.least_pairs.specs.Runs.{Label, State, has}
+use Rattle.least_pairs.specs.Trees.{parent, joined}
 use Rattle.least_pairs.specs.Plans.{up, first-job, second-job, link-of, tree-link, cost-of, reduced, marks, pair-read}
+use Rattle.least_pairs.specs.Rightness.{Short}
 use Rattle.least_pairs.specs.Laws.{Moment, Run-laws}
 use Rattle.least_pairs.proofs.Sight.{Sound-view}
 use Rattle.least_pairs.proofs.Listed.{has-tail, has-cases, occurs-append}
 use Rattle.least_pairs.proofs.Tree.{moment-has, moment-new, root-reached, up-reached}
-use Rattle.least_pairs.proofs.Pieces.{top-of, some-same, joined-top, top-all, top-above}
+use Rattle.least_pairs.proofs.Pieces.{top-of, top-joined, some-same, top-all, top-above}
 use Rattle.least_pairs.proofs.Climbs.{tree-of, Climb, climb-links, climb-of, climb-over, climb-under, climb-apart, climb-reached, climb-not-root, climb-balance, climb-once, climb-link, climb-free}
-use Rattle.least_pairs.proofs.Parting.{top-between}
+use Rattle.least_pairs.proofs.Parting.{top-between, top-inner, joined-has-top}
+use Rattle.least_pairs.proofs.Cycles.{Acyclic, On-tree, tree-starts, tree-acyclic, acyclic-join, short-walk}
 use Rattle.least_pairs.proofs.Feeding.{Feeds, Enters, Leads, grown, moment-unique, occurs-map-append, exclusive, either, marks-past, marks-root, tree-link-is}
-use Rattle.least_pairs.proofs.Walking.{Flow-of-two, walks-pair, walks-cost}
+use Rattle.least_pairs.proofs.Walking.{Flow-of-two, walks-within, walks-pair, walks-cost}
 
 -- what feeds a site by the sites struck up to it feeds it by more
 feeds-past : {C : Type 0} {k : Ops C} {v : View C} {root : ℕ} {first second : State C} (y : ℕ) (ys : List ℕ) (q : ℕ) → (q ≡ y → ⊥) → Feeds k v root first second ys q → Feeds k v root first second (y ∷ ys) q
@@ -47,11 +49,9 @@ feeds-past {v = v} {root = root} {first = first} {second = second} y ys q d feed
       marked = λ x h. let p = feed .marked x (sym (ap (has x) same) ∙ h) in (p .0, p .1, has-tail x y ys (p .2));
       usable = feed .usable;
       costs = feed .costs;
+      leaves = feed .leaves;
+      acyclic = feed .acyclic;
     }
-
--- a site joined to another has its top
-joined-has-top : {C : Type 0} {k : Ops C} {j : Job C} {root : ℕ} {s : State C} → Run-laws k j root s → (S : List ℕ) (q u z : ℕ) → top-of s S q ≡ Some z → joined (up s) S q u ≡ true → top-of s S u ≡ Some z
-joined-has-top run S q u z h g = let p = joined-top run S q u g in p .2 ∙ ap Some (some-same (p .1) h)
 
 module _ {C : Type 0} {k : Ops C} (laws : Laws k) (v : View C) (sound : Sound-view k v) {root : ℕ} {first second : State C} (fl : Run-laws k (first-job v) root first) (sl : Run-laws k (second-job k v root first) root second) where
   -- nothing feeds the root
@@ -73,6 +73,8 @@ module _ {C : Type 0} {k : Ops C} (laws : Laws k) (v : View C) (sound : Sound-vi
         marked = λ x h. absurd (both-ways (has x (marks (second .labels) root (root ∷ ys) root)) (ap (has x) unmarked) h);
         usable = λ e h. absurd (omega arith);
         costs = refl;
+        leaves = λ e h. absurd (omega arith);
+        acyclic = λ w e es walk part. absurd (omega (arith, part e (omega (arith, hit-self e))));
       }
 
   -- what feeds a site's turn grows to what feeds the site
@@ -161,14 +163,16 @@ module _ {C : Type 0} {k : Ops C} (laws : Laws k) (v : View C) (sound : Sound-vi
   in-last : (e : ℕ) → 1 ≤ occurs e (climb-links first (last .0)) → (e ≡ tree-of first (v .end e)) × (has (v .end e) (last .0) ≡ true) × (v .usable e ≡ true)
   in-last e h = climb-link laws v sound fl e target (feed .z) (last .0) (last .1) z-reached h
 
+  last-within : (x : ℕ) → has x (last .0) ≡ true → top-of first (feed .before) x ≡ Some (feed .z)
+  last-within x h = top-between fl (feed .before) target x (feed .z) (feed .is-top) (climb-over fl target (feed .z) x (last .0) (last .1) h) (climb-under fl target (feed .z) x (last .0) (last .1) z-reached h)
+
   last-old : (e : ℕ) → 1 ≤ occurs e (climb-links first (last .0)) → 1 ≤ occurs e (feed .links) → ⊥
   last-old e h g =
       let p = in-last e h in
       let x = v .end e in
-      let within : top-of first (feed .before) x ≡ Some (feed .z) = top-between fl (feed .before) target x (feed .z) (feed .is-top) (climb-over fl target (feed .z) x (last .0) (last .1) (p .1)) (climb-under fl target (feed .z) x (last .0) (last .1) z-reached (p .1)) in
       elim (feed .kinds e g) [
         | inl n ↦ both-ways (tree-link v first root e) (n .no-tree) (tree-link-is laws v sound fl e (p .0) (climb-reached fl target (feed .z) x (last .0) (last .1) (p .1)) (climb-not-root fl target (feed .z) x (last .0) (last .1) z-reached (p .1)))
-        | inr n ↦ climb-apart fl target (feed .z) x (last .0) (last .1) z-reached (p .1) (n .lone within)
+        | inr n ↦ climb-apart fl target (feed .z) x (last .0) (last .1) z-reached (p .1) (n .lone (last-within x (p .1)))
       ]
 
   closed-parts : (e : ℕ) → occurs e closed ≡ occurs e (climb-links first (last .0)) + occurs e (feed .links)
@@ -205,6 +209,39 @@ module _ {C : Type 0} {k : Ops C} (laws : Laws k) (v : View C) (sound : Sound-vi
         ∙ laws .zero-plus (total k (reduced k v first) (feed .links))
         ∙ feed .costs)
 
+  -- whether a site is in the target's piece
+  abbrev in-last-piece : ℕ → Bool
+  in-last-piece x = joined (up first) (feed .before) target x
+
+  last-on-tree : (e : ℕ) → 1 ≤ occurs e (climb-links first (last .0)) → On-tree v root first e
+  last-on-tree e h =
+      let p = in-last e h in
+      record {
+        is = p .0;
+        reached = climb-reached fl target (feed .z) (v .end e) (last .0) (last .1) (p .1);
+        other = climb-not-root fl target (feed .z) (v .end e) (last .0) (last .1) z-reached (p .1);
+      }
+
+  last-in-piece : (e : ℕ) → 1 ≤ occurs e (climb-links first (last .0)) → (in-last-piece (v .start e) ≡ true) × (in-last-piece (v .end e) ≡ true)
+  last-in-piece e h =
+      let p = in-last e h in
+      let x = v .end e in
+      let there : (y : ℕ) → top-of first (feed .before) y ≡ Some (feed .z) → in-last-piece y ≡ true = λ y g. top-joined fl (feed .before) target y (feed .z) (feed .is-top) g in
+      let within = last-within x (p .1) in
+      (subst (λ w. in-last-piece w ≡ true) (sym (tree-starts laws v sound fl e (last-on-tree e h)))
+        (there (parent (first .labels) x) (top-inner fl (feed .before) x (feed .z) within (climb-apart fl target (feed .z) x (last .0) (last .1) z-reached (p .1)))), there x within)
+
+  old-outside : (e : ℕ) → 1 ≤ occurs e (feed .links) → in-last-piece (v .start e) ≡ false
+  old-outside e i =
+      elim (cases-bool (in-last-piece (v .start e))) [
+        | inl h ↦ absurd (feed .leaves e i (joined-has-top fl (feed .before) target (v .start e) (feed .z) (feed .is-top) h))
+        | inr f ↦ f
+      ]
+
+  -- it has no cycle
+  closed-acyclic : Acyclic v closed
+  closed-acyclic = acyclic-join v in-last-piece (climb-links first (last .0)) (feed .links) closed closed-either last-in-piece old-outside (tree-acyclic laws v sound fl (climb-links first (last .0)) last-on-tree) (feed .acyclic)
+
 module _ {C : Type 0} {k : Ops C} (laws : Laws k) (v : View C) (sound : Sound-view k v) {root : ℕ} {first second : State C} (fl : Run-laws k (first-job v) root first) (sl : Run-laws k (second-job k v root first) root second)
   (target : ℕ) (other : target ≡ root → ⊥) (l : Label C) (labelled : second .labels target ≡ Some l) where
 
@@ -222,6 +259,16 @@ module _ {C : Type 0} {k : Ops C} (laws : Laws k) (v : View C) (sound : Sound-vi
       (le-same laws (closed-cost laws v sound fl sl target other target-fed
         ∙ ap (λ m. k .plus (m .cost) (k .plus (cost-of k (first .labels target)) (cost-of k (first .labels target)))) (some-same (target-fed .labelled) labelled)
         ∙ ap (λ o. k .plus (l .cost) (k .plus (cost-of k o) (cost-of k o))) reached))
+
+  -- neither of its routes visits a site twice, and each has fewer links than there are sites
+  pub reads-short : Short v root (pair-read v first second root target .0) × Short v root (pair-read v first second root target .1)
+  reads-short =
+      let F = closed laws v sound fl sl target other target-fed in
+      let most = walks-within laws v sound first second root target other F (closed-flow laws v sound fl sl target other target-fed) in
+      let none = closed-acyclic laws v sound fl sl target other target-fed in
+      let is : root < v .sites = fl .sites root (root-reached fl) in
+      (short-walk v sound F none root target (pair-read v first second root target .0) is (reads-a-pair .first .leads) (λ e h. omega (arith, h, most e)) (reads-a-pair .first .some),
+       short-walk v sound F none root target (pair-read v first second root target .1) is (reads-a-pair .second .leads) (λ e h. omega (arith, h, most e)) (reads-a-pair .second .some))
 
 -- every struck site other than the root has a pair
 pub pairs : {C : Type 0} {k : Ops C} (laws : Laws k) (v : View C) (sound : Sound-view k v) {root : ℕ} {first second : State C} → Run-laws k (first-job v) root first → Run-laws k (second-job k v root first) root second → (w : ℕ) (l : Label C) → second .labels w ≡ Some l → (w ≡ root → ⊥) → (one : List ℕ) × (two : List ℕ) × Pair v root w one two

@@ -1,6 +1,6 @@
 -- Lists of links that balance a flow of one to a struck site and one to the top of its piece, built along the turns of the second run.
 use mathlib.Core.Path.{_≡_, refl, sym, ap, subst, _∙_}
-use mathlib.Core.Bool.{true, false, cond}
+use mathlib.Core.Bool.{Bool, true, false, cond}
 use mathlib.Core.Logic.{_⊎_, inl, inr}
 use mathlib.Core.List.{List, [], _∷_, _++_, map, head-eq-of-cons-eq, tail-eq-of-cons-eq}
 use Prim.Native.Nat.{ℕ, _+_, _≤_}
@@ -8,7 +8,7 @@ use native.Mathlib.Omega.{arith}
 use lib.Dec.{eqb}
 use Rattle.std.specs.declared.option.Option.{Option}
 use Rattle.std.specs.declared.option.Option.the-variants.{Some}
-use Rattle.std.proofs.shelf.Tests.{eq-eqb, ne-eqb, both-ways, cases-eq, cases-lt, cond-true, cond-false}
+use Rattle.std.proofs.shelf.Tests.{eqb-true, cases-bool, eq-eqb, ne-eqb, both-ways, cases-eq, cases-lt, cond-true, cond-false}
 use Rattle.costs.specs.Costs.{Ops, Laws, total}
 use Rattle.costs.specs.Counting.{hit, occurs}
 use Rattle.costs.proofs.Counted.{hit-self}
@@ -21,10 +21,11 @@ use Rattle.least_pairs.specs.Laws.{Moment, Run-laws}
 use Rattle.least_pairs.proofs.Sight.{Sound-view}
 use Rattle.least_pairs.proofs.Distances.{tree-link-told}
 use Rattle.least_pairs.proofs.Listed.{has-head, has-tail, has-cases, occurs-append, lacks-head, lacks-tail}
-use Rattle.least_pairs.proofs.Tree.{moment-lacks, up-settled, up-antisym}
-use Rattle.least_pairs.proofs.Pieces.{top-of, top-some, top-above, top-reached}
+use Rattle.least_pairs.proofs.Tree.{moment-lacks, up-settled, up-antisym, up-trans, up-parent-lacks}
+use Rattle.least_pairs.proofs.Pieces.{top-of, top-joined, top-some, top-above, top-reached}
 use Rattle.least_pairs.proofs.Climbs.{tree-of, Climb, climb-links, climb-over, climb-under, climb-apart, climb-reached, climb-not-root, climb-balance, climb-once, climb-link, climb-free}
-use Rattle.least_pairs.proofs.Parting.{Ways, ways, later-top, low-under}
+use Rattle.least_pairs.proofs.Cycles.{Acyclic, On-tree, tree-starts, tree-acyclic, acyclic-join, all-out, hit-most}
+use Rattle.least_pairs.proofs.Parting.{Ways, ways, later-top, low-under, start-out, joined-has-top, top-inner}
 
 -- two lists that are one, taken apart at a number that is in neither front, have one back
 behind : (y : ℕ) (xs ys S T : List ℕ) → xs ++ y ∷ S ≡ ys ++ y ∷ T → has y xs ≡ false → has y ys ≡ false → S ≡ T
@@ -100,6 +101,9 @@ pub record Feeds {C : Type 0} (k : Ops C) (v : View C) (root : ℕ) (first secon
   pub marked : (x : ℕ) → has x (marks (second .labels) root Z q) ≡ true → (1 ≤ occurs (link-of (second .labels x)) links) × (v .end (link-of (second .labels x)) ≡ x) × (has x Z ≡ true)
   pub usable : (e : ℕ) → 1 ≤ occurs e links → v .usable e ≡ true
   pub costs : total k (reduced k v first) links ≡ label .cost
+  -- no link starts in the site's piece, and no walk over the links comes back
+  pub leaves : (e : ℕ) → 1 ≤ occurs e links → top-of first before (v .start e) ≡ Some z → ⊥
+  pub acyclic : Acyclic v links
 
 -- a link that is the tree link of its end, a reached site other than the root, is told to be a tree link
 pub tree-link-is : {C : Type 0} {k : Ops C} (laws : Laws k) (v : View C) (sound : Sound-view k v) {root : ℕ} {first : State C} → Run-laws k (first-job v) root first → (e : ℕ) → e ≡ tree-of first (v .end e) → has (v .end e) (first .order) ≡ true → (v .end e ≡ root → ⊥) → tree-link v first root e ≡ true
@@ -233,9 +237,6 @@ module _ {C : Type 0} {k : Ops C} (laws : Laws k) (v : View C) (sound : Sound-vi
           ]
       ]
 
-  hit-once : (e x : ℕ) → hit e x ≤ 1
-  hit-once e x = elim (eqb e x) as (λ b. cond b 1 0 ≤ 1) [ true ↦ omega arith | false ↦ omega arith ]
-
   -- no link stands twice
   all-once : (e : ℕ) → occurs e all ≤ 1
   all-once e =
@@ -245,7 +246,7 @@ module _ {C : Type 0} {k : Ops C} (laws : Laws k) (v : View C) (sound : Sound-vi
             exclusive (occurs e one) (occurs e two + occurs e (feed .links)) (climb-once laws v sound fl e (low-of .0) (two-ways .from) (two-ways .sites) (two-ways .climb) from-reached) last
             (λ h g. elim (either (occurs e two) (occurs e (feed .links)) g) [ inl i ↦ one-two e h i | inr i ↦ one-old e h i ]) in
       let whole : hit e (m .link) + (occurs e one + (occurs e two + occurs e (feed .links))) ≤ 1 =
-            exclusive (hit e (m .link)) (occurs e one + (occurs e two + occurs e (feed .links))) (hit-once e (m .link)) rest (entry-new e) in
+            exclusive (hit e (m .link)) (occurs e one + (occurs e two + occurs e (feed .links))) (hit-most e (m .link)) rest (entry-new e) in
       omega (arith, parts e)
 
   -- what holds of the entry link, of the links of the climbs and of those before holds of all
@@ -318,6 +319,109 @@ module _ {C : Type 0} {k : Ops C} (laws : Laws k) (v : View C) (sound : Sound-vi
       ∙ laws .comm (r (m .link)) (feed .label .cost)
       ∙ sym cost
 
+  -- no link starts in the new piece
+  on-tree : {e : ℕ} → Leads v root first ys (low-of .0) e → On-tree v root first e
+  on-tree l = record { is = l .is; reached = l .reached; other = l .other }
+
+  apart-too : (x : ℕ) → top-of first ys x ≡ Some (low-of .0) → top-of first apart-at x ≡ Some (low-of .0)
+  apart-too x h = subst (λ Y. top-of first Y x ≡ Some (low-of .0)) (feed .moment .whole) h
+
+  one-leaves : (e : ℕ) → 1 ≤ occurs e one → top-of first ys (v .start e) ≡ Some (low-of .0) → ⊥
+  one-leaves e i h =
+      let l = leads-one e i in
+      let x = v .end e in
+      let p = parent (first .labels) x in
+      let starts : v .start e ≡ p = tree-starts laws v sound fl e (on-tree l) in
+      let low-p : has (low-of .0) (up first p) ≡ true = top-above fl ys p (low-of .0) (subst (λ w. top-of first ys w ≡ Some (low-of .0)) starts h) .0 in
+      let x-low : has x (up first (low-of .0)) ≡ true = climb-over fl (low-of .0) (two-ways .from) x (two-ways .sites) (two-ways .climb) (in-one e i .1) in
+      both-ways (has x (up first p)) (up-parent-lacks fl x (l .reached) (l .other)) (up-trans fl x (low-of .0) p x-low low-p)
+
+  two-leaves : (e : ℕ) → 1 ≤ occurs e two → top-of first ys (v .start e) ≡ Some (low-of .0) → ⊥
+  two-leaves e i h =
+      let starts = tree-starts laws v sound fl e (on-tree (leads-two e i)) in
+      two-ways .other-starts (v .end e) (in-two e i .1) (apart-too (parent (first .labels) (v .end e)) (subst (λ w. top-of first ys w ≡ Some (low-of .0)) starts h))
+
+  all-leaves : (e : ℕ) → 1 ≤ occurs e all → top-of first ys (v .start e) ≡ Some (low-of .0) → ⊥
+  all-leaves e h g =
+      in-parts ⊥ e h
+      (λ s. start-out fl (m .turn) (feed .before) (feed .z) (feed .is-top) (v .start (m .link)) t hu ht parted (feed .moment .later) (low-of .0) low-there (apart-too (v .start (m .link)) (subst (λ y. top-of first ys (v .start y) ≡ Some (low-of .0)) s g)))
+      (λ i. one-leaves e i g)
+      (λ i. two-leaves e i g)
+      (λ i. feed .leaves e i (later-top fl (m .turn) (feed .before) (feed .z) (feed .is-top) (v .start (m .link)) t hu ht parted (feed .moment .later) (low-of .0) low-there (v .start e) (apart-too (v .start e) g)))
+
+  -- the new links
+  abbrev new-links : List ℕ
+  new-links = m .link ∷ (one ++ two)
+
+  in-new : (P : Type 0) (e : ℕ) → 1 ≤ occurs e new-links → (e ≡ m .link → P) → (1 ≤ occurs e one → P) → (1 ≤ occurs e two → P) → P
+  in-new P e h a b c =
+      elim (cases-eq e (m .link)) [
+        | inl s ↦ a s
+        | inr n ↦
+            let none : hit e (m .link) ≡ 0 = ap (λ z. cond z 1 0) (ne-eqb e (m .link) n) in
+            elim (either (occurs e one) (occurs e two) (omega (arith, occurs-append e one two))) [ inl i ↦ b i | inr i ↦ c i ]
+      ]
+
+  new-or-old : (e : ℕ) → 1 ≤ occurs e all → (1 ≤ occurs e new-links) ⊎ (1 ≤ occurs e (feed .links))
+  new-or-old e h = either (occurs e new-links) (occurs e (feed .links)) (omega (arith, parts e, occurs-append e one two))
+
+  -- whether a site is in the turn's piece
+  abbrev in-piece : ℕ → Bool
+  in-piece x = joined (up first) (feed .before) (m .turn) x
+
+  top-in-piece : (x : ℕ) → top-of first (feed .before) x ≡ Some (feed .z) → in-piece x ≡ true
+  top-in-piece x h = top-joined fl (feed .before) (m .turn) x (feed .z) (feed .is-top) h
+
+  -- a tree link within the piece
+  tree-in-piece : (e : ℕ) → On-tree v root first e → top-of first (feed .before) (v .end e) ≡ Some (feed .z) → (v .end e ≡ feed .z → ⊥) → (in-piece (v .start e) ≡ true) × (in-piece (v .end e) ≡ true)
+  tree-in-piece e on h d =
+      (subst (λ w. in-piece w ≡ true) (sym (tree-starts laws v sound fl e on)) (top-in-piece (parent (first .labels) (v .end e)) (top-inner fl (feed .before) (v .end e) (feed .z) h d)), top-in-piece (v .end e) h)
+
+  new-in-piece : (e : ℕ) → 1 ≤ occurs e new-links → (in-piece (v .start e) ≡ true) × (in-piece (v .end e) ≡ true)
+  new-in-piece e h =
+      in-new ((in-piece (v .start e) ≡ true) × (in-piece (v .end e) ≡ true)) e h
+      (λ s. subst (λ y. (in-piece (v .start y) ≡ true) × (in-piece (v .end y) ≡ true)) (sym s)
+        (top-in-piece (v .start (m .link)) hu, top-in-piece (v .end (m .link)) (subst (λ w. top-of first (feed .before) w ≡ Some (feed .z)) (sym lands) ht)))
+      (λ i. let p = in-one e i in
+        tree-in-piece e (on-tree (leads-one e i)) (two-ways .within (v .end e) (p .1))
+        (not-top (low-of .0) (two-ways .from) (v .end e) (two-ways .sites) (two-ways .climb) from-reached (two-ways .from-under) (p .1)))
+      (λ i. let p = in-two e i in
+        tree-in-piece e (on-tree (leads-two e i)) (two-ways .other-within (v .end e) (p .1))
+        (not-top (v .start (m .link)) (two-ways .other) (v .end e) (two-ways .other-sites) (two-ways .other-climb) other-reached (two-ways .other-under) (p .1)))
+
+  old-out : (e : ℕ) → 1 ≤ occurs e (feed .links) → in-piece (v .start e) ≡ false
+  old-out e i =
+      elim (cases-bool (in-piece (v .start e))) [
+        | inl h ↦ absurd (feed .leaves e i (joined-has-top fl (feed .before) (m .turn) (v .start e) (feed .z) (feed .is-top) h))
+        | inr f ↦ f
+      ]
+
+  -- no link starts at the site itself
+  none-starts : (e : ℕ) → 1 ≤ occurs e new-links → eqb (v .start e) t ≡ true → ⊥
+  none-starts e h s =
+      all-leaves e (omega (arith, h, parts e, occurs-append e one two)) (subst (λ w. top-of first ys w ≡ Some (low-of .0)) (sym (eqb-true (v .start e) t s)) (low-of .1))
+
+  -- the new links have no cycle: none could go on from the site, and the others are tree links
+  new-acyclic : Acyclic v new-links
+  new-acyclic w e es walk part =
+      let first-there : 1 ≤ occurs e new-links = part e (omega (arith, hit-self e)) in
+      let away : eqb w t ≡ false = elim (cases-bool (eqb w t)) [
+            | inl s ↦ absurd (none-starts e first-there (subst (λ y. eqb y t ≡ true) (sym (walk .1)) s))
+            | inr f ↦ f
+          ] in
+      tree-acyclic laws v sound fl (one ++ two)
+      (λ x i. elim (either (occurs x one) (occurs x two) (omega (arith, i, occurs-append x one two))) [ inl o ↦ on-tree (leads-one x o) | inr o ↦ on-tree (leads-two x o) ])
+      w e es walk
+      (λ x i.
+        let ends = all-out v (λ y. eqb y t) new-links (λ y j h. absurd (none-starts y j h)) w w (e ∷ es) walk part away x i .1 in
+        in-new (1 ≤ occurs x (one ++ two)) x (part x i)
+        (λ s. absurd (both-ways (eqb (v .end x) t) ends (eq-eqb (v .end x) t (ap (v .end) s ∙ lands))))
+        (λ o. omega (arith, o, occurs-append x one two))
+        (λ o. omega (arith, o, occurs-append x one two)))
+
+  all-acyclic : Acyclic v all
+  all-acyclic = acyclic-join v in-piece new-links (feed .links) all new-or-old new-in-piece old-out new-acyclic (feed .acyclic)
+
   -- the list grown from the turn's feeds the site
   pub grown : Feeds k v root first second (t ∷ ys) t
   grown = record {
@@ -353,4 +457,6 @@ module _ {C : Type 0} {k : Ops C} (laws : Laws k) (v : View C) (sound : Sound-vi
       (λ i. in-two e i .2)
       (feed .usable e);
     costs = all-costs;
+    leaves = all-leaves;
+    acyclic = all-acyclic;
   }

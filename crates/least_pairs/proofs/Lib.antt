@@ -15,7 +15,6 @@ pub mod Pieces
 pub mod Jobs
 pub mod Sizes
 pub mod Fitting
-pub mod Loops
 pub mod Walks
 pub mod TreeRoutes
 pub mod Strikes
@@ -24,6 +23,7 @@ pub mod Detours
 pub mod Cutting
 pub mod Walking
 pub mod Climbs
+pub mod Cycles
 pub mod Parting
 pub mod Feeding
 pub mod Balance

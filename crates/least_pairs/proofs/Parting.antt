@@ -13,10 +13,10 @@ use Rattle.least_pairs.specs.Runs.{Job, State, has}
 use Rattle.least_pairs.specs.Trees.{parent, joined}
 use Rattle.least_pairs.specs.Plans.{up}
 use Rattle.least_pairs.specs.Laws.{Run-laws}
-use Rattle.least_pairs.proofs.Listed.{lacks-more}
+use Rattle.least_pairs.proofs.Listed.{lacks-more, has-head, has-right}
 use Rattle.least_pairs.proofs.Tree.{root-reached, parent-reached, by-parents, up-settled, up-reached, up-self, up-more, up-cases, up-trans, up-antisym}
-use Rattle.least_pairs.proofs.Pieces.{top-of, some-same, joined-top, top-joined, joined-sym, joined-trans, top-reached, top-above, top-root, top-self, top-parent, joined-free, joined-refl, joined-parent, joined-between, joined-fewer}
-use Rattle.least_pairs.proofs.Climbs.{Climb, climb-of, climb-under, climb-over, climb-apart}
+use Rattle.least_pairs.proofs.Pieces.{top-of, some-same, joined-top, top-joined, joined-sym, joined-trans, top-free, top-reached, top-above, top-root, top-self, top-parent, joined-free, joined-refl, joined-parent, joined-climb, joined-between, joined-fewer}
+use Rattle.least_pairs.proofs.Climbs.{Climb, climb-of, climb-under, climb-over, climb-apart, climb-not-root}
 
 module _ {C : Type 0} {k : Ops C} {j : Job C} {root : ℕ} {s : State C} (run : Run-laws k j root s) where
   -- a top is its own top
@@ -34,6 +34,20 @@ module _ {C : Type 0} {k : Ops C} {j : Job C} {root : ℕ} {s : State C} (run : 
       let zw = top-joined run S z w z (top-top S w z h) h in
       let p = joined-top run S x w (joined-between run S z x w hz hx zw) in
       p .1 ∙ ap Some (some-same (p .2) h)
+
+  -- a site joined to another has its top
+  pub joined-has-top : (S : List ℕ) (q u z : ℕ) → top-of s S q ≡ Some z → joined (up s) S q u ≡ true → top-of s S u ≡ Some z
+  joined-has-top S q u z h g = let p = joined-top run S q u g in p .2 ∙ ap Some (some-same (p .1) h)
+
+  -- the parent of a site that is not its top has that top
+  pub top-inner : (S : List ℕ) (x z : ℕ) → top-of s S x ≡ Some z → (x ≡ z → ⊥) → top-of s S (parent (s .labels) x) ≡ Some z
+  top-inner S x z h d =
+      let ztop = top-top S x z h in
+      let lacks : has x (up s z) ≡ false = elim (cases-bool (has x (up s z))) [
+            | inl t ↦ absurd (d (up-antisym run x z t (top-above run S x z h .0)))
+            | inr f ↦ f
+          ] in
+      joined-has-top S z (parent (s .labels) x) z ztop (joined-sym run S (parent (s .labels) x) z (joined-climb run S x z (top-joined run S x z z h ztop) lacks))
 
   -- what is joined with more struck later is joined with fewer
   pub joined-before : (more S : List ℕ) (u w : ℕ) → joined (up s) (more ++ S) u w ≡ true → joined (up s) S u w ≡ true
@@ -63,7 +77,7 @@ module _ {C : Type 0} {k : Ops C} {j : Job C} {root : ℕ} {s : State C} (run : 
               joined-trans run (q ∷ S) x p z jxp (joined-sym run (q ∷ S) z p (joined-parent run (q ∷ S) z hz d free pfree))
         ]) u (up-settled run x u hx) hx hj clear
 
--- two climbs from a struck site q and the top z of its piece before S: one to the top of a later piece, the other to a site u that lies elsewhere; they keep within the piece of q, share no site, and the second keeps out of the later piece
+-- two climbs from a struck site q and the top z of its piece before S: one to the top of a later piece, the other to a site u that lies elsewhere; they keep within the piece of q, share no site, and the second, with the parents of its sites, keeps out of the later piece
 pub record Ways {C : Type 0} (s : State C) (q : ℕ) (S : List ℕ) (z u : ℕ) (later : List ℕ) (low : ℕ) : Type 0 where
   pub from : ℕ
   pub other : ℕ
@@ -78,6 +92,7 @@ pub record Ways {C : Type 0} (s : State C) (q : ℕ) (S : List ℕ) (z u : ℕ) 
   pub other-within : (x : ℕ) → has x other-sites ≡ true → top-of s S x ≡ Some z
   pub apart : (x : ℕ) → has x sites ≡ true → has x other-sites ≡ true → ⊥
   pub other-out : (x : ℕ) → has x other-sites ≡ true → top-of s later x ≡ Some low → ⊥
+  pub other-starts : (x : ℕ) → has x other-sites ≡ true → top-of s later (parent (s .labels) x) ≡ Some low → ⊥
 
 module _ {C : Type 0} {k : Ops C} {j : Job C} {root : ℕ} {s : State C} (run : Run-laws k j root s)
   (q : ℕ) (S : List ℕ) (z : ℕ) (hq : top-of s S q ≡ Some z)
@@ -95,6 +110,22 @@ module _ {C : Type 0} {k : Ops C} {j : Job C} {root : ℕ} {s : State C} (run : 
   -- a site of the later piece is joined to its site when q is struck
   in-later : (x : ℕ) → top-of s (more ++ q ∷ S) x ≡ Some low → joined (up s) (q ∷ S) x t ≡ true
   in-later x h = joined-before run more (q ∷ S) x t (top-joined run (more ++ q ∷ S) x t low h hlow)
+
+  -- where a site of the piece of q is not joined to the later piece's when q is struck, its parent is not in the later piece
+  starts-out : (x : ℕ) → (x ≡ root → ⊥) → top-of s S x ≡ Some z → (x ≡ q → ⊥) → (joined (up s) (q ∷ S) x t ≡ true → ⊥) → top-of s (more ++ q ∷ S) (parent (s .labels) x) ≡ Some low → ⊥
+  starts-out x d h n out g =
+      let p = parent (s .labels) x in
+      let pt = in-later p g in
+      let free : has x (q ∷ S) ≡ false = lacks-more x q S n (top-free run S x z h) in
+      out (joined-trans run (q ∷ S) x p t (joined-parent run (q ∷ S) x (top-reached run S x z h) d free (joined-free run (q ∷ S) p t pt)) pt)
+
+  -- the start of the entry link is not in the later piece
+  pub start-out : top-of s (more ++ q ∷ S) u ≡ Some low → ⊥
+  start-out h =
+      elim parted [
+        | inl e ↦ both-ways (has u (more ++ q ∷ S)) (top-free run (more ++ q ∷ S) u low h) (subst (λ w. has w (more ++ q ∷ S) ≡ true) (sym e) (has-right q more (q ∷ S) (has-head q S)))
+        | inr f ↦ both-ways (joined (up s) (q ∷ S) u t) f (in-later u h)
+      ]
 
   q-under : has z (up s q) ≡ true
   q-under = top-above run S q z hq .0
@@ -139,6 +170,7 @@ module _ {C : Type 0} {k : Ops C} {j : Job C} {root : ℕ} {s : State C} (run : 
           let xl = joined-past run q S x low above (top-joined run S x low z (inside x o) low-top) (λ y hy gy. not-past x o y gy) in
           out x o (joined-trans run (q ∷ S) x low t xl low-joined);
         other-out = λ x o g. out x o (in-later x g);
+        other-starts = λ x o. starts-out x (climb-not-root run u q x (b .0) (b .1) q-reached o) (inside x o) (climb-apart run u q x (b .0) (b .1) q-reached o) (out x o);
       }
 
   -- it is not
@@ -164,6 +196,8 @@ module _ {C : Type 0} {k : Ops C} {j : Job C} {root : ℕ} {s : State C} (run : 
       let b = climb-of run z u zu in
       let inside : (x : ℕ) → has x (b .0) ≡ true → top-of s S x ≡ Some z =
             λ x i. top-between run S u x z hu (climb-over run u z x (b .0) (b .1) i) (climb-under run u z x (b .0) (b .1) zr i) in
+      let out : (x : ℕ) → has x (b .0) ≡ true → joined (up s) (q ∷ S) x t ≡ true → ⊥ =
+            λ x o g. both-ways (joined (up s) (q ∷ S) u t) cut (joined-trans run (q ∷ S) u x t (past-u x (climb-over run u z x (b .0) (b .1) o) (inside x o)) g) in
       record {
         from = q;
         other = z;
@@ -177,8 +211,8 @@ module _ {C : Type 0} {k : Ops C} {j : Job C} {root : ℕ} {s : State C} (run : 
         within = λ x i. top-between run S low x z low-top (climb-over run low q x (a .0) (a .1) i) (up-trans run z q x q-under (climb-under run low q x (a .0) (a .1) q-reached i));
         other-within = inside;
         apart = λ x i o. both-ways (has q (up s u)) h (up-trans run q x u (climb-under run low q x (a .0) (a .1) q-reached i) (climb-over run u z x (b .0) (b .1) o));
-        other-out = λ x o g.
-          both-ways (joined (up s) (q ∷ S) u t) cut (joined-trans run (q ∷ S) u x t (past-u x (climb-over run u z x (b .0) (b .1) o) (inside x o)) (in-later x g));
+        other-out = λ x o g. out x o (in-later x g);
+        other-starts = λ x o. starts-out x (climb-not-root run u z x (b .0) (b .1) zr o) (inside x o) (not-past x (climb-over run u z x (b .0) (b .1) o)) (out x o);
       }
 
   -- a site of the later piece was in the piece of q, whose top is above the later top

@@ -1,12 +1,12 @@
 -- The theorems, as they are stated.
 use mathlib.Core.Path.{_≡_, refl, sym}
 use Prim.Native.Nat.{ℕ, _<_}
-use Rattle.costs.specs.Costs.{Ops, Laws, AboveZero}
+use Rattle.costs.specs.Costs.{Ops, Laws}
 use Rattle.networks.specs.Meaning.{Net, Sound}
 use Rattle.least_pairs.specs.Views.{View, view}
 use Rattle.least_pairs.specs.Plans.{first-run, second-run, answer}
 use Rattle.least_pairs.specs.Theorems.{Answers-are-true, Answers-come-exactly-when-true, Routes-visit-no-site-twice, Answers-are-right, Surveys-are-right, Sums-are-exact, Runs-keep-their-laws}
-use Rattle.least_pairs.proofs.Seen.{view-sound, cost-size, cost-above}
+use Rattle.least_pairs.proofs.Seen.{view-sound, cost-size}
 use Rattle.least_pairs.proofs.Jobs.{first-laws, second-laws, first-determined, second-determined}
 use Rattle.least_pairs.proofs.Fitting.{sums-fit}
 use Rattle.least_pairs.proofs.Answering.{exactly, says, no-site-twice, survey-right}
@@ -36,13 +36,12 @@ module _ {C : Type 0} (k : Ops C) (laws : Laws k) where
       let fl = first-laws laws v sight root hr in
       sums-fit laws sight (cost-size laws n s) (s .most-sites) fl (second-laws laws v sight root hr (first-run k v root) fl)
 
-  pub no-route-visits-twice : AboveZero k → Routes-visit-no-site-twice k
-  no-route-visits-twice above n s root target hr ht apart =
-      no-site-twice laws (view k n) (view-sound laws n s) root hr (cost-above k above n s) target apart (answer k (view k n) root target) (answers-are-true n s root target hr ht apart)
+  pub no-route-visits-twice : Routes-visit-no-site-twice k
+  no-route-visits-twice n s root target hr ht apart = no-site-twice laws (view k n) (view-sound laws n s) root hr target apart
 
-  pub answers-are-right : AboveZero k → Answers-are-right k
-  answers-are-right above n s root target hr ht apart = record {
+  pub answers-are-right : Answers-are-right k
+  answers-are-right n s root target hr ht apart = record {
     says = answers-are-true n s root target hr ht apart;
     exactly = answers-exactly n s root target hr ht apart;
-    no-site-twice = no-route-visits-twice above n s root target hr ht apart;
+    no-site-twice = no-route-visits-twice n s root target hr ht apart;
   }

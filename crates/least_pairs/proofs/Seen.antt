@@ -8,7 +8,7 @@ use lib.ListN.{length, getD}
 use Rattle.std.proofs.shelf.Lists.{getD-past}
 use Rattle.std.proofs.shelf.Tests.{cases-lt, false≢true}
 use Rattle.costs.specs.declared.link.Lengths.{Lengths}
-use Rattle.costs.specs.Costs.{Ops, Laws, AboveZero, Le, Lt}
+use Rattle.costs.specs.Costs.{Ops, Laws, Le}
 use Rattle.costs.specs.Links.{Within}
 use Rattle.networks.specs.declared.model.Link.{Link}
 use Rattle.networks.specs.Meaning.{Net, Sound, link-at, link-sound, usable, no-link}
@@ -42,7 +42,3 @@ module _ {C : Type 0} {k : Ops C} (laws : Laws k) (n : Net) (s : Sound n) where
   -- the cost of a usable link has a size of at most 1,000,000
   pub cost-size : (e : ℕ) → view k n .usable e ≡ true → k .size (view k n .cost e) ≤ 1000000
   cost-size e h = laws .size-link (record { metres = link-at n e .metres; poles = link-at n e .poles }) (within-lengths (n .sites) (link-at n e) (usable-limits n s e h))
-
--- a usable link costs more than zero, where the kind says so
-pub cost-above : {C : Type 0} (k : Ops C) → AboveZero k → (n : Net) → Sound n → (e : ℕ) → view k n .usable e ≡ true → Lt k (k .zero) (view k n .cost e)
-cost-above k above n s e h = above (record { metres = link-at n e .metres; poles = link-at n e .poles }) (within-lengths (n .sites) (link-at n e) (usable-limits n s e h))

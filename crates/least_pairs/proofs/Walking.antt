@@ -240,17 +240,17 @@ module _ {C : Type 0} {k : Ops C} (laws : Laws k) (v : View C) (sound : Sound-vi
       (few (v .links) (one .left) (turned .once) (λ e h. sound .link e (turned .usable e h))) turned refl
 
   -- the two walks together hold each link at most as often as the flow
-  counted : (e : ℕ) → occurs e (pair-read v first second root target .0) + occurs e (pair-read v first second root target .1) ≤ occurs e F
+  pub walks-within : (e : ℕ) → occurs e (pair-read v first second root target .0) + occurs e (pair-read v first second root target .1) ≤ occurs e F
   unfolding pair-read
-  counted e = omega (arith, one .counted e, two .counted e)
+  walks-within e = omega (arith, one .counted e, two .counted e)
 
   -- the pair read is two routes that share no link
   pub walks-pair : Pair v root target (pair-read v first second root target .0) (pair-read v first second root target .1)
   unfolding pair-read
   walks-pair = record {
-    first = record { some = walk-some v root target (pair-read v first second root target .0) apart (one .leads); leads = one .leads; once = λ e. omega (arith, counted e, flow .once e) };
-    second = record { some = walk-some v root target (pair-read v first second root target .1) apart (two .leads); leads = two .leads; once = λ e. omega (arith, counted e, flow .once e) };
-    apart = λ e. omega (arith, counted e, flow .once e);
+    first = record { some = walk-some v root target (pair-read v first second root target .0) apart (one .leads); leads = one .leads; once = λ e. omega (arith, walks-within e, flow .once e) };
+    second = record { some = walk-some v root target (pair-read v first second root target .1) apart (two .leads); leads = two .leads; once = λ e. omega (arith, walks-within e, flow .once e) };
+    apart = λ e. omega (arith, walks-within e, flow .once e);
   }
 
   -- it costs at most what the flow costs
@@ -259,4 +259,4 @@ module _ {C : Type 0} {k : Ops C} (laws : Laws k) (v : View C) (sound : Sound-vi
       let a = pair-read v first second root target .0 in
       let b = pair-read v first second root target .1 in
       le-trans laws (le-same laws (sym (total-append laws (v .cost) a b)))
-      (total-part laws (v .cost) (a ++ b) F (λ e. omega (arith, counted e, occurs-append e a b)) (all-occurring (λ e. Le k (k .zero) (v .cost e)) F (λ e h. sound .least e (flow .usable e h))))
+      (total-part laws (v .cost) (a ++ b) F (λ e. omega (arith, walks-within e, occurs-append e a b)) (all-occurring (λ e. Le k (k .zero) (v .cost e)) F (λ e h. sound .least e (flow .usable e h))))

@@ -3,4 +3,4 @@ use Rattle.least_pairs.proofs.Proved.{answers-are-right}
 use Rattle.least_pairs.proofs.answers_are_right.Needs as need
 
 pub returns : need.returns
-returns g c = answers-are-right (g .C·Cost .ops) (g .C·Cost·met .lawful) (g .C·Cost·met .«above_zero»)
+returns g c = answers-are-right (g .C·Cost .ops) (g .C·Cost·met .lawful)
