@@ -37,7 +37,11 @@ pub fn first_record<'a>(bytes: &'a [u8]) -> Option<Head<'a>>
     let kind = number(*c, *d);
     let payload = &after[0..length];
     let rest = &after[length..];
-    Some(Head { kind, payload, rest })
+    Some(Head {
+        kind,
+        payload,
+        rest,
+    })
 }
 
 // Why a record is not written.
@@ -64,7 +68,12 @@ fn head_bytes(length: u16, kind: u16) -> [u8; 4]
 }
 
 // Appends a record whose payload comes in two parts, one after the other. What is refused leaves the bytes as they were.
-pub fn push_record(out: &mut Vec<u8>, kind: u16, front: &[u8], back: &[u8]) -> Result<(), WriteFault>
+pub fn push_record(
+    out: &mut Vec<u8>,
+    kind: u16,
+    front: &[u8],
+    back: &[u8],
+) -> Result<(), WriteFault>
     ensures { λ r. ⌜ Pushed (vec-items (now (out .entry))) (vec-items (now (out .exit))) kind (now (front .entry) ++ now (back .entry)) r ⌝ }
 {
     if front.len() > 65535 || back.len() > 65535 - front.len() {

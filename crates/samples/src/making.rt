@@ -2,9 +2,9 @@
 use networks::model::Link;
 use records::WriteFault;
 use records::push_record;
-use sheets::writing::push_header;
-use sheets::writing::push_link;
-use sheets::writing::push_name;
+use sheet_writing::push_header;
+use sheet_writing::push_link;
+use sheet_writing::push_name;
 use std::alloc::Global;
 
 // The exchange's links: start, end, metres, pole metres.

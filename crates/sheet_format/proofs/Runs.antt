@@ -38,5 +38,5 @@ over b x more p o fits none t =
     let r = reads-back x more fits in
     goes (broken-record b (bytes-of x ++ more) (r .some) (r .whole) (r .shape) ∙ ap (refused b) (r .item) ∙ none) (r .some)
     (subst (λ y. Runs (added b y) (rest-of (bytes-of x ++ more)) (p + (4 + u16-at (bytes-of x ++ more) 0)) o) (sym (r .item))
-     (subst (λ l. Runs (added b x) l (p + (4 + u16-at (bytes-of x ++ more) 0)) o) (sym (r .rest))
-      (subst (λ n. Runs (added b x) more (p + n) o) (sym (r .size)) t)))
+    (subst (λ l. Runs (added b x) l (p + (4 + u16-at (bytes-of x ++ more) 0)) o) (sym (r .rest))
+    (subst (λ n. Runs (added b x) more (p + n) o) (sym (r .size)) t)))

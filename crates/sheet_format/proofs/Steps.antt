@@ -35,9 +35,9 @@ by-kind : (kind size : ℕ) → shaped kind size ≡ true → ((kind ≡ 1) × (
 by-kind kind size h =
     ⊎-elim (λ t. let p = and-parts (eqb kind 1) (eqb size 4) t in inl (eqb-true _ _ (p .0), eqb-true _ _ (p .1)))
     (λ u. ⊎-elim
-      (λ t. let p = and-parts (eqb kind 2) (leb 3 size && leb size 34) t in let q = and-parts (leb 3 size) (leb size 34) (p .1) in inr (inl (eqb-true _ _ (p .0), leb-true _ _ (q .0), leb-true _ _ (q .1))))
-      (λ t. let p = and-parts (eqb kind 3) (eqb size 14) t in inr (inr (eqb-true _ _ (p .0), eqb-true _ _ (p .1))))
-      (or-cases _ _ u))
+    (λ t. let p = and-parts (eqb kind 2) (leb 3 size && leb size 34) t in let q = and-parts (leb 3 size) (leb size 34) (p .1) in inr (inl (eqb-true _ _ (p .0), leb-true _ _ (q .0), leb-true _ _ (q .1))))
+    (λ t. let p = and-parts (eqb kind 3) (eqb size 14) t in inr (inr (eqb-true _ _ (p .0), eqb-true _ _ (p .1))))
+    (or-cases _ _ u))
     (or-cases _ _ h)
 
 -- a payload of a fitting size is the writing of its record
@@ -84,8 +84,8 @@ pub proper-item : (kind : ℕ) (p : List ℕ) → shaped kind (length p) ≡ tru
 proper-item kind p h =
     ⊎-elim (λ w. let is : Proper (item-of 1 p) = tt in subst (λ k. Proper (item-of k p)) (sym (w .0)) is)
     (λ v. ⊎-elim
-      (λ w. let is : Proper (item-of 2 p) = (omega (arith, length-drop 2 p), omega (arith, length-drop 2 p)) in subst (λ k. Proper (item-of k p)) (sym (w .0)) is)
-      (λ w. let is : Proper (item-of 3 p) = (refl, refl) in subst (λ k. Proper (item-of k p)) (sym (w .0)) is) v)
+    (λ w. let is : Proper (item-of 2 p) = (omega (arith, length-drop 2 p), omega (arith, length-drop 2 p)) in subst (λ k. Proper (item-of k p)) (sym (w .0)) is)
+    (λ w. let is : Proper (item-of 3 p) = (refl, refl) in subst (λ k. Proper (item-of k p)) (sym (w .0)) is) v)
     (by-kind kind (length p) h)
 
 all-three : (p q r : Bool) (x y z : Rule) → _≡_ {A = Option Rule} (cond p (cond q (cond r None (Some x)) (Some y)) (Some z)) None → (p ≡ true) × (q ≡ true) × (r ≡ true)

@@ -43,17 +43,17 @@ go : (n : ℕ) (bytes rest : List ℕ) (b : Before) → length rest < n → Byte
 go zero bytes rest b less typed law split = absurd (omega arith)
 go (suc n) bytes rest b less typed law split =
     (elim (broken b rest) as (λ o. broken b rest ≡ o → (x : Outcome) × Means bytes x) [
-      Some r ↦ λ h. (fault r (length (written-before b)), record { before = b; rest = rest; lawful = law; split = split; at-place = refl; breaks = h })
+      | Some r ↦ λ h. (fault r (length (written-before b)), record { before = b; rest = rest; lawful = law; split = split; at-place = refl; breaks = h })
       | None ↦ λ h. ⊎-elim (λ none. at-end bytes rest b law split none h)
-    (λ some.
-        let p = passed b rest some h in
-        let x = item-of (kind-of rest) (payload-of rest) in
-        let item = whole-item (payload-of rest) (bytes-take (u16-at rest 0) (drop 4 rest) (bytes-drop 4 rest typed)) (kind-of rest) (p .1) in
-        let parts : rest ≡ bytes-of x ++ rest-of rest = written-is rest typed (p .0) ∙ ap (λ l. l ++ rest-of rest) (sym (item .0)) in
-        let further : length (rest-of rest) < n = omega (arith, length-drop (4 + u16-at rest 0) rest, some) in
-        go n bytes (rest-of rest) (added b x) further (bytes-drop (4 + u16-at rest 0) rest typed) (grows b x law (proper-item (kind-of rest) (payload-of rest) (p .1)) (p .2))
-        (split ∙ ap (λ l. written-before b ++ l) parts ∙ sym (append-assoc (written-before b) (bytes-of x) (rest-of rest)) ∙ ap (λ l. l ++ rest-of rest) (sym (written-more b x (p .2)))))
-    (cases-eq (length rest) 0)
+          (λ some.
+          let p = passed b rest some h in
+          let x = item-of (kind-of rest) (payload-of rest) in
+          let item = whole-item (payload-of rest) (bytes-take (u16-at rest 0) (drop 4 rest) (bytes-drop 4 rest typed)) (kind-of rest) (p .1) in
+          let parts : rest ≡ bytes-of x ++ rest-of rest = written-is rest typed (p .0) ∙ ap (λ l. l ++ rest-of rest) (sym (item .0)) in
+          let further : length (rest-of rest) < n = omega (arith, length-drop (4 + u16-at rest 0) rest, some) in
+          go n bytes (rest-of rest) (added b x) further (bytes-drop (4 + u16-at rest 0) rest typed) (grows b x law (proper-item (kind-of rest) (payload-of rest) (p .1)) (p .2))
+          (split ∙ ap (λ l. written-before b ++ l) parts ∙ sym (append-assoc (written-before b) (bytes-of x) (rest-of rest)) ∙ ap (λ l. l ++ rest-of rest) (sym (written-more b x (p .2)))))
+          (cases-eq (length rest) 0)
     ]) refl
 
 pub total : (bytes : List ℕ) → ((i : ℕ) → getD bytes i 0 < 256) → (x : Outcome) × Means bytes x

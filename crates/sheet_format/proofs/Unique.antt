@@ -49,8 +49,8 @@ module _ (s c : ℕ) (few : s ≤ 256) (rest : List ℕ) (o : Outcome) where
       let h = and-parts (link-sound s l) (all-sound s ls) sound in
       let lt : length done < c = omega arith in
       let after = through-links ns (done ++ l ∷ []) ls (p + length (bytes-of (link l))) (h .1) (unused .1) (omega (arith, length-append done (l ∷ [])))
-        (subst (λ k. Runs (begun (fields s c ns k)) rest (p + length (bytes-of (link l)) + length (links-bytes ls)) o) (sym (append-assoc done (l ∷ []) ls))
-          (further o _ rest p (bytes-of (link l)) (links-bytes ls) t)) in
+      (subst (λ k. Runs (begun (fields s c ns k)) rest (p + length (bytes-of (link l)) + length (links-bytes ls)) o) (sym (append-assoc done (l ∷ []) ls))
+      (further o _ rest p (bytes-of (link l)) (links-bytes ls) t)) in
       subst (λ k. Runs (begun (fields s c ns done)) k p o) (sym (append-assoc (bytes-of (link l)) (links-bytes ls) rest))
       (over (begun (fields s c ns done)) (link l) (links-bytes ls ++ rest) p o (link-fits s l few (h .0) (unused .0)) (refused-none (begun (fields s c ns done)) (link l) refl (h .0) (lt-ltb _ _ lt)) after)
 
@@ -58,8 +58,8 @@ module _ (s c : ℕ) (few : s ≤ 256) (rest : List ℕ) (o : Outcome) where
   through-names done [] p good rising t = subst (λ n. Runs (begun (fields s c done [])) rest n o) (add-zero p) (subst (λ l. Runs (begun (fields s c l [])) rest (p + 0) o) (append-nil done) t)
   through-names done (n ∷ ns) p good rising t =
       let after = through-names (done ++ n ∷ []) ns (p + length (bytes-of (name n))) (good .1) (subst (λ k. Rising k ns) (sym (next-site-push 0 done n)) (rising .1))
-        (subst (λ k. Runs (begun (fields s c k [])) rest (p + length (bytes-of (name n)) + length (names-bytes ns)) o) (sym (append-assoc done (n ∷ []) ns))
-          (further o _ rest p (bytes-of (name n)) (names-bytes ns) t)) in
+      (subst (λ k. Runs (begun (fields s c k [])) rest (p + length (bytes-of (name n)) + length (names-bytes ns)) o) (sym (append-assoc done (n ∷ []) ns))
+      (further o _ rest p (bytes-of (name n)) (names-bytes ns) t)) in
       subst (λ k. Runs (begun (fields s c done [])) k p o) (sym (append-assoc (bytes-of (name n)) (names-bytes ns) rest))
       (over (begun (fields s c done [])) (name n) (names-bytes ns ++ rest) p o (name-fits s n few (good .0)) (refused-none (begun (fields s c done [])) (name n) (le-leb _ _ (rising .0)) (good .0 .limits) refl) after)
 

@@ -37,4 +37,4 @@ abbrev pub item-of : ℕ → List ℕ → Item
 item-of kind payload =
     cond (eqb kind 1) (header (u16-at payload 0) (u16-at payload 2))
     (cond (eqb kind 2) (name (record { site = u16-at payload 0; name = drop 2 payload }))
-     (link (lit-link (u16-at payload 0) (u16-at payload 2) (u32-at payload 4) (u32-at payload 8) (u16-at payload 12))))
+    (link (lit-link (u16-at payload 0) (u16-at payload 2) (u32-at payload 4) (u32-at payload 8) (u16-at payload 12))))

@@ -90,7 +90,7 @@ abbrev pub broken : Before → List ℕ → Option Rule
 broken b rest =
     cond (eqb (length rest) 0) (unfinished b)
     (cond (cut-short rest) (Some whole-record)
-     (cond (shaped (kind-of rest) (length (payload-of rest))) (refused b (item-of (kind-of rest) (payload-of rest))) (Some right-shape)))
+    (cond (shaped (kind-of rest) (length (payload-of rest))) (refused b (item-of (kind-of rest) (payload-of rest))) (Some right-shape)))
 
 -- What came before, with one record more that breaks no rule.
 abbrev pub added : Before → Item → Before

@@ -9,7 +9,7 @@ use lib.Dec.{eqb, leb, ltb}
 use lib.ListN.{length, getD, drop}
 use Rattle.std.specs.declared.option.Option.the-variants.{Some, None}
 use Rattle.std.proofs.shelf.Lists.{at-drop-more, at-drop-all}
-use Rattle.std.proofs.shelf.Tests.{cond-true, cond-false, eq-eqb, ne-eqb, le-leb, lt-leb, ltb-true, ltb-false, cases-bool, and-from, and-left, and-right}
+use Rattle.std.proofs.shelf.Tests.{cond-true, cond-false, eq-eqb, ne-eqb, le-leb, lt-leb, ltb-true, ltb-false, cases-bool, and-left}
 use Rattle.sheet_format.specs.Rules.{next-site, printable}
 use Rattle.sheets.specs.declared.names.Entry.{Entry}
 use Rattle.sheets.specs.Naming.{entry-of, name-of}
@@ -46,14 +46,11 @@ rises-first [] site h = sym (le-leb 0 site (omega arith))
 rises-first (e ∷ es) site h = absurd (omega arith)
 
 -- the bytes of a name, one by one
-pub byte-more : (bs : List ℕ) (i : ℕ) → i < length bs → 32 ≤ getD bs i 0 → getD bs i 0 ≤ 126 → printable (drop (i + 1) bs) ≡ printable (drop i bs)
-byte-more bs i h low high = sym (at-drop-more printable bs i 0 h ∙ ap (λ b. b && printable (drop (i + 1) bs)) (and-from _ _ (le-leb 32 (getD bs i 0) low) (le-leb (getD bs i 0) 126 high)))
+pub byte-more : (bs : List ℕ) (i : ℕ) → i < length bs → (leb 32 (getD bs i 0) && leb (getD bs i 0) 126) ≡ true → printable (drop (i + 1) bs) ≡ printable (drop i bs)
+byte-more bs i h seen = sym (at-drop-more printable bs i 0 h ∙ ap (λ b. b && printable (drop (i + 1) bs)) seen)
 
-pub byte-low : (bs : List ℕ) (i : ℕ) → i < length bs → getD bs i 0 < 32 → printable (drop i bs) ≡ false
-byte-low bs i h low = at-drop-more printable bs i 0 h ∙ and-left _ _ (and-left _ _ (lt-leb 32 (getD bs i 0) low))
-
-pub byte-high : (bs : List ℕ) (i : ℕ) → i < length bs → 126 < getD bs i 0 → printable (drop i bs) ≡ false
-byte-high bs i h high = at-drop-more printable bs i 0 h ∙ and-left _ _ (and-right _ _ (lt-leb (getD bs i 0) 126 high))
+pub byte-bad : (bs : List ℕ) (i : ℕ) → i < length bs → (leb 32 (getD bs i 0) && leb (getD bs i 0) 126) ≡ false → printable (drop i bs) ≡ false
+byte-bad bs i h seen = at-drop-more printable bs i 0 h ∙ and-left _ _ seen
 
 pub bytes-all : (bs : List ℕ) (i : ℕ) → length bs ≤ i → printable (drop i bs) ≡ true
 bytes-all bs i h = at-drop-all printable bs i h

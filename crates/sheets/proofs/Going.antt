@@ -12,18 +12,20 @@ use Rattle.std.specs.declared.result.Result.the-variants.{Ok, Err}
 use Rattle.std.proofs.shelf.Lists.{drop-drop, nil-from-length}
 use Rattle.records.specs.Bytes.{kind-of, payload-of}
 use Rattle.sheet_format.specs.Items.{Item, header, name, link, bytes-of}
-use Rattle.sheet_format.specs.Rules.{Rule, Fields, Before, unbegun, begun, refused, unfinished, broken, added}
-use Rattle.sheet_format.specs.Sheets.{written, Lawful, written-before, Fails, sheet, Means}
-use Rattle.sheet_format.proofs.Checks.{broken-end}
+use Rattle.sheet_format.specs.Rules.{Rule, whole-record, right-shape, right-order, within-limits, link-count, Fields, Before, unbegun, begun, refused, unfinished, broken, added}
+use Rattle.sheet_format.specs.Sheets.{written, Lawful, written-before, Fails, sheet, fault, Means}
+use Rattle.sheet_format.proofs.Checks.{broken-end, broken-record}
+use Rattle.sheet_format.proofs.Unique.{unique}
 use Rattle.sheet_format.proofs.Steps.{Proper, proper-item, grows, written-more}
-use Rattle.sheets.specs.declared.record.Placed.{Placed}
-use Rattle.sheets.specs.declared.faults.RecordFault.the-variants.{CutShort, WrongShape}
+use Rattle.sheet_records.specs.declared.record.Placed.{Placed}
+use Rattle.sheet_records.specs.declared.faults.RecordFault.the-variants.{CutShort, WrongShape}
 use Rattle.sheets.specs.declared.faults.SheetFault.{SheetFault}
 use Rattle.sheets.specs.declared.faults.SheetFault.the-variants as its
+use Rattle.sheets.specs.declared.gathering.Gathering.{Gathering}
 use Rattle.sheets.specs.declared.gathering.Sheet.{Sheet}
-use Rattle.sheets.specs.Records.{item, Found}
-use Rattle.sheets.specs.Taking.{fields-of, Blames, Finished}
-use Rattle.sheets.specs.Reads.{Sofar, Moved, Wanting, Reads}
+use Rattle.sheet_records.specs.Records.{item, Found}
+use Rattle.sheets.specs.Taking.{gathered, fields-of, Blames, Begun, Finished}
+use Rattle.sheets.specs.Reads.{Sofar, Moved, Began, Wanting, Reads, Gives}
 
 long-item : (x : Item) → 4 ≤ length (bytes-of x)
 long-item (header s c) = omega arith
@@ -46,6 +48,16 @@ module _ (bytes : List ℕ) (place : ℕ) (b : Before) (p : Placed) (place′ : 
 
   pub moved : Moved bytes place b place′ after
   moved = record { further = omega (arith, found .ends, long-item (item (p .record))); keeps = λ s. subst (Sofar bytes place′) (sym is) (sofar-more s) }
+
+-- a record that was found and is refused breaks the rule that it is refused for
+pub refuses : (left : List ℕ) (place : ℕ) (b : Before) (p : Placed) (place′ : ℕ) (e : SheetFault) → Found left place p place′ → Blames e (refused b (item (p .record))) (p .place) → Blames e (broken b left) place
+refuses left place b p place′ e found h =
+    subst (λ o. Blames e o place) (ap (refused b) (found .says) ∙ sym (broken-record b left (found .some) (found .whole) (found .shape))) (subst (Blames e (refused b (item (p .record)))) (found .begins) h)
+
+-- the header was found and judged
+pub began : (bytes : List ℕ) (place : ℕ) (p : Placed) (place′ : ℕ) (r : Result Gathering SheetFault) → Found (drop place bytes) place p place′ → Begun (item (p .record)) (p .place) r → Began bytes place r place′
+began bytes place p place′ (Ok g) found h = moved bytes place unbegun p place′ (begun (gathered g)) found (h .0) (h .1)
+began bytes place p place′ (Err e) found h = refuses (drop place bytes) place unbegun p place′ e found h
 
 module _ (bytes : List ℕ) (place : ℕ) (b : Before) (s : Sofar bytes place b) where
   failed : (r : Rule) (at : ℕ) → broken b (drop place bytes) ≡ Some r → at ≡ place → Fails bytes r at
@@ -74,3 +86,20 @@ module _ (bytes : List ℕ) (place : ℕ) (f : Fields) (s : Sofar bytes place (b
       subst (λ g. Means bytes (sheet g)) (sym (h .2))
       (record { beginning = s .lawful; complete = h .1 }, s .split ∙ ap (λ l. written f ++ l) (nil-from-length (drop place bytes) none) ∙ append-nil (written f))
   done (Err e) h = tells bytes place (begun f) s e (subst (Blames e (broken (begun f) (drop place bytes))) ended (subst (λ o. Blames e o (length bytes)) (sym (broken-end (begun f) (drop place bytes) none)) h))
+
+-- a sheet is not a fault
+apart : (f : Fields) (r : Rule) (place : ℕ) → sheet f ≡ fault r place → ⊥
+apart f r place e = let z : _≡_ {A = ℕ} 0 1 = cc in omega arith
+
+same-fields : (f g : Fields) → sheet f ≡ sheet g → f ≡ g
+same-fields f g e = cc
+
+-- the writing of lawful fields is read as those fields
+pub gives : (bytes : List ℕ) (f : Fields) → Lawful f → bytes ≡ written f → (r : Result Sheet SheetFault) → Reads bytes r → Gives f r
+gives bytes f law same (Ok s) h = same-fields (fields-of s) f (unique bytes (sheet (fields-of s)) (sheet f) h (law, same))
+gives bytes f law same (Err (its.Record (CutShort at))) h = apart f _ at (unique bytes (sheet f) (fault whole-record at) (law, same) h)
+gives bytes f law same (Err (its.Record (WrongShape at))) h = apart f _ at (unique bytes (sheet f) (fault right-shape at) (law, same) h)
+gives bytes f law same (Err (its.OutOfOrder at)) h = apart f _ at (unique bytes (sheet f) (fault right-order at) (law, same) h)
+gives bytes f law same (Err (its.OutsideLimits at)) h = apart f _ at (unique bytes (sheet f) (fault within-limits at) (law, same) h)
+gives bytes f law same (Err (its.LinkCount at)) h = apart f _ at (unique bytes (sheet f) (fault link-count at) (law, same) h)
+gives bytes f law same (Err its.Memory) h = tt

@@ -1,5 +1,3 @@
--- Lemmas on sheets.
-pub mod Leaving
+-- Lemmas on reading sheets.
 pub mod Finding
 pub mod Going
-pub mod Appending

@@ -5,15 +5,9 @@ use Rattle.std.specs.declared.option.Option.the-variants.{Some, None}
 use Rattle.refusals.specs.declared.Refusal.{Refusal}
 use Rattle.refusals.specs.declared.Refusal.the-variants as listed
 use Rattle.refusals.specs.Numbers.{number}
-use Rattle.sheets.specs.declared.faults.RecordFault.{RecordFault}
-use Rattle.sheets.specs.declared.faults.RecordFault.the-variants.{CutShort, WrongShape}
+use Rattle.sheet_records.specs.Faults.{record-refusal}
 use Rattle.sheets.specs.declared.faults.SheetFault.{SheetFault}
 use Rattle.sheets.specs.declared.faults.SheetFault.the-variants as its
-
--- Which refusal of the list each fault of a record is.
-abbrev pub record-refusal : RecordFault → Refusal
-record-refusal (CutShort place) = listed.CutShort place
-record-refusal (WrongShape place) = listed.WrongShape place
 
 -- Which refusal of the list each fault of a sheet is; want of memory is none.
 abbrev pub sheet-refusal : SheetFault → Option Refusal

@@ -1,7 +1,5 @@
 -- What the crate's contracts cite.
 pub mod Faults
-pub mod Records
 pub mod Naming
 pub mod Taking
 pub mod Reads
-pub mod Writes

@@ -9,7 +9,7 @@ use Rattle.std.specs.declared.result.Result.{Result}
 use Rattle.std.specs.declared.result.Result.the-variants.{Ok, Err}
 use Rattle.sheet_format.specs.Rules.{whole-record, right-shape, right-order, within-limits, link-count, Fields, Before, unbegun, begun, broken}
 use Rattle.sheet_format.specs.Sheets.{written-before, Lawful-before, sheet, fault, Means}
-use Rattle.sheets.specs.declared.faults.RecordFault.the-variants.{CutShort, WrongShape}
+use Rattle.sheet_records.specs.declared.faults.RecordFault.the-variants.{CutShort, WrongShape}
 use Rattle.sheets.specs.declared.faults.SheetFault.{SheetFault}
 use Rattle.sheets.specs.declared.faults.SheetFault.the-variants as its
 use Rattle.sheets.specs.declared.gathering.Gathering.{Gathering}
@@ -55,3 +55,12 @@ Reads bytes (Err (its.OutOfOrder place)) = Means bytes (fault right-order place)
 Reads bytes (Err (its.OutsideLimits place)) = Means bytes (fault within-limits place)
 Reads bytes (Err (its.LinkCount place)) = Means bytes (fault link-count place)
 Reads bytes (Err its.Memory) = Wanting bytes
+
+-- What reading the writing of lawful fields gives: those fields, unless memory is wanting.
+abbrev pub Gives : Fields → Result Sheet SheetFault → Type 0
+Gives f (Ok s) = fields-of s ≡ f
+Gives f (Err (its.Record at)) = ⊥
+Gives f (Err (its.OutOfOrder place)) = ⊥
+Gives f (Err (its.OutsideLimits place)) = ⊥
+Gives f (Err (its.LinkCount place)) = ⊥
+Gives f (Err its.Memory) = Unit {0}

@@ -10,7 +10,7 @@ use Rattle.std.specs.declared.result.Result.the-variants.{Ok, Err}
 use Rattle.networks.specs.Owning.{owned-meaning}
 use Rattle.sheet_format.specs.Items.{Item}
 use Rattle.sheet_format.specs.Rules.{Rule, whole-record, right-shape, right-order, within-limits, link-count, Fields, Before, unbegun, begun, refused, unfinished, added}
-use Rattle.sheets.specs.declared.faults.RecordFault.the-variants.{CutShort, WrongShape}
+use Rattle.sheet_records.specs.declared.faults.RecordFault.the-variants.{CutShort, WrongShape}
 use Rattle.sheets.specs.declared.faults.SheetFault.{SheetFault}
 use Rattle.sheets.specs.declared.faults.SheetFault.the-variants as its
 use Rattle.sheets.specs.declared.gathering.Gathering.{Gathering}

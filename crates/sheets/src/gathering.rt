@@ -1,17 +1,20 @@
 // What the records of a sheet, read one after the other, come to.
 ghost use mathlib.Core.Path.{_≡_};
+ghost use mathlib.Core.Bool.{_&&_};
+ghost use Prim.Native.Nat.{_≤_};
+ghost use lib.Dec.{leb};
 ghost use Rattle.sheet_format.specs.Rules.{unbegun, begun, printable};
-ghost use Rattle.sheets.specs.Records.{item};
+ghost use Rattle.sheet_records.specs.Records.{item};
 ghost use Rattle.sheets.specs.Taking.{gathered, Begun, Judged, Finished};
 use crate::faults::SheetFault;
 use crate::names::Names;
-use crate::record::Placed;
-use crate::record::Record;
 use networks::building::BuildRefusal;
 use networks::model::Link;
 use networks::network::Network;
 use networks::owned::OwnedNetwork;
 use networks::owning::OwnedIsNetwork;
+use sheet_records::record::Placed;
+use sheet_records::record::Record;
 use std::alloc::Global;
 
 // A sheet that was read: its network, and its sites' names as bytes borrowed from the sheet.
@@ -29,12 +32,19 @@ pub(crate) struct Gathering<'a> {
     count: u16,
 }
 
+// Whether a byte can be printed: it lies between the blank and the tilde.
+fn is_visible(byte: u8) -> bool
+    ensures { λ r. ⌜ r ≡ leb 32 byte && leb byte 126 ⌝ }
+{
+    (32 <= byte) & (byte <= 126)
+}
+
 // Whether each byte of a name can be printed.
 fn is_printable(name: &[u8]) -> bool
     ensures { λ r. ⌜ r ≡ printable (now (name .entry)) ⌝ }
 {
     for byte in name {
-        if *byte < 32 || 126 < *byte {
+        if !is_visible(*byte) {
             return false;
         }
     }
@@ -81,6 +91,7 @@ impl<'a> Gathering<'a> {
 
     // Takes a link that is sound and not one too many.
     fn accept_link(&mut self, place: usize, link: Link) -> Result<(), SheetFault>
+        requires { ⌜ now self .count ≤ 2048 ⌝ }
         ensures { λ r. ⌜ Judged (gathered (now (self .entry))) (item (Record.Link link)) place r (gathered (now (self .exit))) ⌝ }
     {
         if !link.is_sound(self.network.sites()) {
@@ -91,12 +102,14 @@ impl<'a> Gathering<'a> {
         }
         match self.network.add(link) {
             Ok(()) => Ok(()),
-            Err(_) => Err(SheetFault::Memory),
+            Err(BuildRefusal::Memory) => Err(SheetFault::Memory),
+            Err(BuildRefusal::OutsideLimits) => unreachable(),
         }
     }
 
     // Takes the next record after the header.
     pub(crate) fn accept(&mut self, next: Placed<'a>) -> Result<(), SheetFault>
+        requires { ⌜ now self .count ≤ 2048 ⌝ }
         ensures { λ r. ⌜ Judged (gathered (now (self .entry))) (item (next .entry .record)) (next .entry .place) r (gathered (now (self .exit))) ⌝ }
     {
         let Placed { place, record } = next;
@@ -111,7 +124,11 @@ impl<'a> Gathering<'a> {
     pub(crate) fn finish(self, place: usize) -> Result<Sheet<'a>, SheetFault>
         ensures { λ r. ⌜ Finished (gathered (self .entry)) place r ⌝ }
     {
-        let Gathering { network, names, count } = self;
+        let Gathering {
+            network,
+            names,
+            count,
+        } = self;
         if network.links() != count {
             return Err(SheetFault::LinkCount { place });
         }

@@ -1,8 +1,5 @@
-// Sheets: reading a network and its sites' names from bytes, and writing them.
+// Sheets: reading a network and its sites' names from bytes.
 pub mod faults;
-pub mod record;
-pub mod reader;
-pub mod names;
 pub mod gathering;
+pub mod names;
 pub mod reading;
-pub mod writing;

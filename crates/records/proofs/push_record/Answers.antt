@@ -29,9 +29,10 @@ three was head front back x y z p q r =
 pub returns : need.returns
 returns c =
     let size = length-append (c .args .front .now) (c .args .back .now) in
-    let same : c .len-before .result ≡ length (vec-items (c .args .out .now)) = c .len-before .ensures ∙ c .args .out .now .ok .0 in
-    (omega arith,
-     c .truncate .ensures .items ∙ elim (c .else-append .came) [ else-append·by·then-append·then-append-2·else-append-3 w ↦ restored _ _ _ _ same (ap vec-items (w .out-is) ∙ w .if-append-3 .ensures tt ∙ w .if-append-2 .ensures tt ∙ ap (λ l. l ++ c .args .front .now) (w .if-append .ensures tt) ∙ append-assoc (vec-items (c .args .out .now)) _ _) | else-append·by·then-append·else-append-2 w ↦ restored _ _ _ _ same (ap vec-items (w .out-is) ∙ w .if-append-2 .ensures tt ∙ w .if-append .ensures tt) | else-append·by·else-append w ↦ restored _ _ _ _ same (ap vec-items (w .out-is) ∙ w .if-append .ensures tt ∙ sym (append-nil _)) ])
+    let same : c .len-before .result ≡ length (vec-items (c .args .out .now)) = c .len-before .ensures ∙ c .args .out .now .ok .0 in (
+      omega arith,
+      c .truncate .ensures .items ∙ elim (c .else-append .came) [ else-append·by·then-append·then-append-2·else-append-3 w ↦ restored _ _ _ _ same (ap vec-items (w .out-is) ∙ w .if-append-3 .ensures tt ∙ w .if-append-2 .ensures tt ∙ ap (λ l. l ++ c .args .front .now) (w .if-append .ensures tt) ∙ append-assoc (vec-items (c .args .out .now)) _ _) | else-append·by·then-append·else-append-2 w ↦ restored _ _ _ _ same (ap vec-items (w .out-is) ∙ w .if-append-2 .ensures tt ∙ w .if-append .ensures tt) | else-append·by·else-append w ↦ restored _ _ _ _ same (ap vec-items (w .out-is) ∙ w .if-append .ensures tt ∙ sym (append-nil _)) ],
+    )
 
 pub returns-then-append-3 : need.returns-then-append-3
 returns-then-append-3 c =

@@ -2,7 +2,7 @@
 use borrow.Author.Needs.{needs}
 use lib.ListN.{drop}
 use Rattle.sheet_format.specs.Rules.{begun}
-use Rattle.sheets.specs.Records.{Found}
+use Rattle.sheet_records.specs.Records.{Found}
 use Rattle.sheets.specs.Taking.{gathered}
 use Rattle.sheets.proofs.Going.{moved}
 use Rattle.sheets.proofs.reading.advance.Needs as need

@@ -1,0 +1,2 @@
+-- Lemmas on the record reader.
+pub mod Leaving

@@ -1,0 +1,3 @@
+-- Lemmas on writing.
+pub mod Appending
+pub mod Listing
