@@ -56,7 +56,12 @@ fn close<N: Network>(rt: &LibcRuntime, layer: &mut Closing<N>, link: u16) -> Res
     Ok(())
 }
 
-fn surcharge<N: Network>(rt: &LibcRuntime, layer: &mut Surcharge<N>, link: u16, amount: u32) -> Result<(), AnyError> {
+fn surcharge<N: Network>(
+    rt: &LibcRuntime,
+    layer: &mut Surcharge<N>,
+    link: u16,
+    amount: u32,
+) -> Result<(), AnyError> {
     match layer.surcharge(link, amount) {
         Ok(()) => println!(rt, "surcharge {link}: {amount} metres")?,
         Err(refusal) => print_refusal(rt, "surcharge", link, refusal.refusal())?,

@@ -5,7 +5,12 @@ use sheets::faults::SheetFault;
 use std::error::AnyError;
 
 /// Prints a refusal of a call: its number and its rule.
-pub fn print_refusal(rt: &LibcRuntime, call: &str, link: u16, refusal: Refusal) -> Result<(), AnyError> {
+pub fn print_refusal(
+    rt: &LibcRuntime,
+    call: &str,
+    link: u16,
+    refusal: Refusal,
+) -> Result<(), AnyError> {
     let number = refusal.number();
     let rule = refusal.rule();
     println!(rt, "{call} {link}: refused {number}: {rule}")?;

@@ -5,9 +5,9 @@ use networks::model::Link;
 use networks::network::Network;
 use networks::owning::OwnedIsNetwork;
 use sheet_records::reader::RecordReader;
-use sheets::reading::read;
 use sheet_records::record::Placed;
 use sheet_records::record::Record;
+use sheets::reading::read;
 use std::error::AnyError;
 use std::fs;
 use std::io::Read;
@@ -51,7 +51,10 @@ fn print_records(rt: &LibcRuntime, bytes: &[u8]) -> Result<(), AnyError> {
 fn print_record(rt: &LibcRuntime, placed: Placed, links: u64) -> Result<u64, AnyError> {
     let place = placed.place;
     match placed.record {
-        Record::Header { sites, links: count } => {
+        Record::Header {
+            sites,
+            links: count,
+        } => {
             println!(rt, "{place}: header, {sites} sites, {count} links")?;
             Ok(links)
         }
@@ -69,12 +72,20 @@ fn print_record(rt: &LibcRuntime, placed: Placed, links: u64) -> Result<u64, Any
     }
 }
 
-fn print_link_record(rt: &LibcRuntime, place: usize, number: u64, link: Link) -> Result<(), AnyError> {
+fn print_link_record(
+    rt: &LibcRuntime,
+    place: usize,
+    number: u64,
+    link: Link,
+) -> Result<(), AnyError> {
     let start = link.start;
     let end = link.end;
     let metres = link.metres;
     let poles = link.poles;
     let channels = link.channels;
-    println!(rt, "{place}: link {number}, {start} to {end}, {metres} metres, {poles} on poles, channels {channels}")?;
+    println!(
+        rt,
+        "{place}: link {number}, {start} to {end}, {metres} metres, {poles} on poles, channels {channels}"
+    )?;
     Ok(())
 }

@@ -32,7 +32,11 @@ pub fn ask<N: Network>(network: &N, link: u16) -> Result<Told, NetworkRefusal> {
 
 /// Adds up what a network tells of its links.
 pub fn add_up<N: Network>(network: &N) -> Result<Totals, NetworkRefusal> {
-    let mut sums = Totals { metres: 0, poles: 0, channels: 0 };
+    let mut sums = Totals {
+        metres: 0,
+        poles: 0,
+        channels: 0,
+    };
     for link in 0..network.links() {
         let told = ask(network, link)?;
         let (metres, poles) = told.lengths;
@@ -50,7 +54,10 @@ pub fn print_link(rt: &LibcRuntime, link: u16, told: Told) -> Result<(), AnyErro
     let (metres, poles) = told.lengths;
     let (channels, taken) = told.channels;
     let light = if told.lit { "lit" } else { "dark" };
-    println!(rt, "  link {link}: {start} to {end}, {metres} metres, {poles} on poles, {taken} of {channels} taken, {light}")?;
+    println!(
+        rt,
+        "  link {link}: {start} to {end}, {metres} metres, {poles} on poles, {taken} of {channels} taken, {light}"
+    )?;
     Ok(())
 }
 
@@ -75,6 +82,9 @@ pub fn print_totals<N: Network>(rt: &LibcRuntime, network: &N) -> Result<(), Any
     let metres = sums.metres;
     let poles = sums.poles;
     let channels = sums.channels;
-    println!(rt, "sites {sites} links {links} metres {metres} poles {poles} channels {channels}")?;
+    println!(
+        rt,
+        "sites {sites} links {links} metres {metres} poles {poles} channels {channels}"
+    )?;
     Ok(())
 }

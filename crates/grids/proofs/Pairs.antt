@@ -44,9 +44,15 @@ second-added n m k l l2 (Err e) first told h = only-memory m k l2 e told h
 pub street-sound : (sites a b metres channels : ℕ) → a < sites → b < sites → (a ≡ b → ⊥) → 1 ≤ metres → metres ≤ 1000000 → 1 ≤ channels → channels ≤ 255 → link-sound sites (street a b metres channels) ≡ true
 street-sound sites a b metres channels ha hb apart m1 m2 c1 c2 =
     within sites (street a b metres channels) (record {
-      start-low = ha; end-low = hb; apart = apart;
-      metres-low = m1; metres-high = m2; poles-high = omega arith;
-      channels-low = c1; channels-high = c2; taken-high = omega arith;
+      start-low = ha;
+      end-low = hb;
+      apart = apart;
+      metres-low = m1;
+      metres-high = m2;
+      poles-high = omega arith;
+      channels-low = c1;
+      channels-high = c2;
+      taken-high = omega arith;
     })
 
 module _ (from : ℕ → ℕ) (step metres channels : ℕ) where
@@ -66,18 +72,19 @@ module _ (from : ℕ → ℕ) (step metres channels : ℕ) where
       let back = street (from m + step) (from m) metres channels in
       let long = two-ways-length m in
       ⊎-elim
-        (λ lt.
-          let first : 2 * i < length before = omega arith in
-          let next : 2 * i + 1 < length before = omega arith in
-          let ih = two-ways-at m i d lt in
-          (getD-append-left before (there ∷ back ∷ []) d (2 * i) first ∙ ih .0, getD-append-left before (there ∷ back ∷ []) d (2 * i + 1) next ∙ ih .1))
-        (λ ge.
-          let here : i ≡ m = omega arith in
-          let first : length before ≡ 2 * i = omega arith in
-          let next : 2 * i + 1 ≡ length before + 1 = omega arith in
-          (getD-at before there (back ∷ []) d (2 * i) first ∙ ap (λ k. street (from k) (from k + step) metres channels) (sym here),
-           ap (λ k. getD (before ++ there ∷ back ∷ []) k d) next ∙ getD-append-add before (there ∷ back ∷ []) 1 d ∙ ap (λ k. street (from k + step) (from k) metres channels) (sym here)))
-        (cases-lt i m)
+      (λ lt.
+      let first : 2 * i < length before = omega arith in
+      let next : 2 * i + 1 < length before = omega arith in
+      let ih = two-ways-at m i d lt in
+      (getD-append-left before (there ∷ back ∷ []) d (2 * i) first ∙ ih .0, getD-append-left before (there ∷ back ∷ []) d (2 * i + 1) next ∙ ih .1))
+      (λ ge.
+      let here : i ≡ m = omega arith in
+      let first : length before ≡ 2 * i = omega arith in
+      let next : 2 * i + 1 ≡ length before + 1 = omega arith in (
+        getD-at before there (back ∷ []) d (2 * i) first ∙ ap (λ k. street (from k) (from k + step) metres channels) (sym here),
+        ap (λ k. getD (before ++ there ∷ back ∷ []) k d) next ∙ getD-append-add before (there ∷ back ∷ []) 1 d ∙ ap (λ k. street (from k + step) (from k) metres channels) (sym here),
+      ))
+      (cases-lt i m)
 
 -- the numbers of a plan, and what follows of its streets
 module _ {w h metres channels : ℕ} (plan : Plan w h metres channels) where
@@ -91,7 +98,7 @@ module _ {w h metres channels : ℕ} (plan : Plan w h metres channels) where
       let column : m % (w - 1) < w - 1 = mod-lt m some in
       let next : m % (w - 1) + 1 < w = omega arith in
       let split : m / (w - 1) * w ≡ m / (w - 1) * (w - 1) + m / (w - 1) =
-          ap (λ c. m / (w - 1) * c) {x = w} {y = w - 1 + 1} (omega arith) ∙ mul-add (m / (w - 1)) (w - 1) 1 ∙ ap (λ c. m / (w - 1) * (w - 1) + c) (mul-one (m / (w - 1))) in
+      ap (λ c. m / (w - 1) * c) {x = w} {y = w - 1 + 1} (omega arith) ∙ mul-add (m / (w - 1)) (w - 1) 1 ∙ ap (λ c. m / (w - 1) * (w - 1) + c) (mul-one (m / (w - 1))) in
       let all : m / (w - 1) * w + (m % (w - 1) + 1) < h * w = digits-lt row next in
       omega (arith, mul-comm w h)
 

@@ -33,10 +33,14 @@ plans w h along across channels e =
     let ac = and-parts (leb 1 across) (leb across 1000000) (lengths .1) in
     let ch = and-parts (leb 1 channels) (leb channels 255) (last .1) in
     let plan : (metres : ℕ) → 1 ≤ metres → metres ≤ 1000000 → Plan w h metres channels = λ metres low high. record {
-      few-columns = leb-true 2 w (cs .0); most-columns = leb-true w 16 (cs .1);
-      few-rows = leb-true 2 h (rs .0); most-rows = leb-true h 16 (rs .1);
-      some-metres = low; most-metres = high;
-      some-channels = leb-true 1 channels (ch .0); most-channels = leb-true channels 255 (ch .1);
+      few-columns = leb-true 2 w (cs .0);
+      most-columns = leb-true w 16 (cs .1);
+      few-rows = leb-true 2 h (rs .0);
+      most-rows = leb-true h 16 (rs .1);
+      some-metres = low;
+      most-metres = high;
+      some-channels = leb-true 1 channels (ch .0);
+      most-channels = leb-true channels 255 (ch .1);
     } in
     (plan along (leb-true 1 along (al .0)) (leb-true along 1000000 (al .1)), plan across (leb-true 1 across (ac .0)) (leb-true across 1000000 (ac .1)))
 
@@ -88,22 +92,24 @@ module _ (across : ℕ) {w h along channels : ℕ} (plan : Plan w h along channe
         sites = ap (λ m. m .sites) e;
         count = ap (λ m. length (m .links)) e ∙ length-append rows cols ∙ omega arith;
         rows = λ i j hi hj.
-          let r = row-of i j hi hj in
-          let m = i * (w - 1) + j in
-          let placed = two-ways-at (row-site w) 1 along channels (h * (w - 1)) m no-link (r .1) in
-          let here : 2 * (i * w + j - i) ≡ 2 * m = ap (λ x. 2 * x) (r .0) in
-          let first : 2 * m < length rows = omega (arith, r .1) in
-          let next : 2 * m + 1 < length rows = omega (arith, r .1) in
-          (at (2 * (i * w + j - i)) ∙ ap (λ k. getD (rows ++ cols) k no-link) here ∙ getD-append-left rows cols no-link (2 * m) first ∙ placed .0 ∙ ap (λ s. street s (s + 1) along channels) (r .2),
-           at (2 * (i * w + j - i) + 1) ∙ ap (λ k. getD (rows ++ cols) (k + 1) no-link) here ∙ getD-append-left rows cols no-link (2 * m + 1) next ∙ placed .1 ∙ ap (λ s. street (s + 1) s along channels) (r .2));
+            let r = row-of i j hi hj in
+            let m = i * (w - 1) + j in
+            let placed = two-ways-at (row-site w) 1 along channels (h * (w - 1)) m no-link (r .1) in
+            let here : 2 * (i * w + j - i) ≡ 2 * m = ap (λ x. 2 * x) (r .0) in
+            let first : 2 * m < length rows = omega (arith, r .1) in
+            let next : 2 * m + 1 < length rows = omega (arith, r .1) in (
+              at (2 * (i * w + j - i)) ∙ ap (λ k. getD (rows ++ cols) k no-link) here ∙ getD-append-left rows cols no-link (2 * m) first ∙ placed .0 ∙ ap (λ s. street s (s + 1) along channels) (r .2),
+              at (2 * (i * w + j - i) + 1) ∙ ap (λ k. getD (rows ++ cols) (k + 1) no-link) here ∙ getD-append-left rows cols no-link (2 * m + 1) next ∙ placed .1 ∙ ap (λ s. street (s + 1) s along channels) (r .2),
+            );
         columns = λ i j hi hj.
-          let s = i * w + j in
-          let inside : s < w * (h - 1) = subst (λ x. s < x) (mul-comm (h - 1) w) (digits-lt hi hj) in
-          let placed = two-ways-at (λ m. m) w across channels (w * (h - 1)) s no-link inside in
-          let here : 2 * (h * (w - 1)) + 2 * s ≡ length rows + 2 * s = omega arith in
-          let next : 2 * (h * (w - 1)) + 2 * s + 1 ≡ length rows + (2 * s + 1) = omega arith in
-          (at (2 * (h * (w - 1)) + 2 * s) ∙ ap (λ k. getD (rows ++ cols) k no-link) here ∙ getD-append-add rows cols (2 * s) no-link ∙ placed .0,
-           at (2 * (h * (w - 1)) + 2 * s + 1) ∙ ap (λ k. getD (rows ++ cols) k no-link) next ∙ getD-append-add rows cols (2 * s + 1) no-link ∙ placed .1);
+            let s = i * w + j in
+            let inside : s < w * (h - 1) = subst (λ x. s < x) (mul-comm (h - 1) w) (digits-lt hi hj) in
+            let placed = two-ways-at (λ m. m) w across channels (w * (h - 1)) s no-link inside in
+            let here : 2 * (h * (w - 1)) + 2 * s ≡ length rows + 2 * s = omega arith in
+            let next : 2 * (h * (w - 1)) + 2 * s + 1 ≡ length rows + (2 * s + 1) = omega arith in (
+              at (2 * (h * (w - 1)) + 2 * s) ∙ ap (λ k. getD (rows ++ cols) k no-link) here ∙ getD-append-add rows cols (2 * s) no-link ∙ placed .0,
+              at (2 * (h * (w - 1)) + 2 * s + 1) ∙ ap (λ k. getD (rows ++ cols) k no-link) next ∙ getD-append-add rows cols (2 * s + 1) no-link ∙ placed .1,
+            );
       }
 
   -- which street a link number belongs to, in every such grid
@@ -124,37 +130,43 @@ module _ (across : ℕ) {w h along channels : ℕ} (plan : Plan w h along channe
       let wide : 0 < w = omega arith in
       let whole : k / 2 * 2 + k % 2 ≡ k = div-add-mod' k 2 in
       ⊎-elim
-        (λ row.
-          let m = k / 2 in
-          let i = m / (w - 1) in
-          let j = m % (w - 1) in
-          let back : i * (w - 1) + j ≡ m = div-add-mod' m (w - 1) in
-          let hi : i < h = div-below m (w - 1) h some row in
-          let hj : j < w - 1 = mod-lt m some in
-          let r = row-of i j hi hj in
-          let at : 2 * (i * w + j - i) ≡ 2 * m = ap (λ x. 2 * x) (r .0 ∙ back) in
-          record {
-            pair = m; from = i * w + j; to = i * w + j + 1; metres = along;
-            inside = omega arith;
-            which = halves k m refl;
-            both = λ n g. subst (λ x. Both-ways n x (i * w + j) (i * w + j + 1) along channels) at (g .rows i j hi hj);
-          })
-        (λ col.
-          let s = k / 2 - h * (w - 1) in
-          let i = s / w in
-          let j = s % w in
-          let back : i * w + j ≡ s = div-add-mod' s w in
-          let low-s : s < w * (h - 1) = omega arith in
-          let hi : i < h - 1 = div-below s w (h - 1) wide (subst (λ x. s < x) (mul-comm w (h - 1)) low-s) in
-          let hj : j < w = mod-lt s wide in
-          let at : 2 * (h * (w - 1)) + 2 * (i * w + j) ≡ 2 * (k / 2) = omega arith in
-          record {
-            pair = k / 2; from = i * w + j; to = i * w + j + w; metres = across;
-            inside = omega arith;
-            which = halves k (k / 2) refl;
-            both = λ n g. subst (λ x. Both-ways n x (i * w + j) (i * w + j + w) across channels) at (g .columns i j hi hj);
-          })
-        (cases-lt (k / 2) (h * (w - 1)))
+      (λ row.
+      let m = k / 2 in
+      let i = m / (w - 1) in
+      let j = m % (w - 1) in
+      let back : i * (w - 1) + j ≡ m = div-add-mod' m (w - 1) in
+      let hi : i < h = div-below m (w - 1) h some row in
+      let hj : j < w - 1 = mod-lt m some in
+      let r = row-of i j hi hj in
+      let at : 2 * (i * w + j - i) ≡ 2 * m = ap (λ x. 2 * x) (r .0 ∙ back) in
+      record {
+        pair = m;
+        from = i * w + j;
+        to = i * w + j + 1;
+        metres = along;
+        inside = omega arith;
+        which = halves k m refl;
+        both = λ n g. subst (λ x. Both-ways n x (i * w + j) (i * w + j + 1) along channels) at (g .rows i j hi hj);
+      })
+      (λ col.
+      let s = k / 2 - h * (w - 1) in
+      let i = s / w in
+      let j = s % w in
+      let back : i * w + j ≡ s = div-add-mod' s w in
+      let low-s : s < w * (h - 1) = omega arith in
+      let hi : i < h - 1 = div-below s w (h - 1) wide (subst (λ x. s < x) (mul-comm w (h - 1)) low-s) in
+      let hj : j < w = mod-lt s wide in
+      let at : 2 * (h * (w - 1)) + 2 * (i * w + j) ≡ 2 * (k / 2) = omega arith in
+      record {
+        pair = k / 2;
+        from = i * w + j;
+        to = i * w + j + w;
+        metres = across;
+        inside = omega arith;
+        which = halves k (k / 2) refl;
+        both = λ n g. subst (λ x. Both-ways n x (i * w + j) (i * w + j + w) across channels) at (g .columns i j hi hj);
+      })
+      (cases-lt (k / 2) (h * (w - 1)))
 
   -- each link has its return link beside it
   pub returned : (n : Net) → Grid w h along across channels n → (k : ℕ) → k < length (n .links) → (beside k < length (n .links)) × (link-at n (beside k) ≡ turned (link-at n k))
@@ -165,25 +177,25 @@ module _ (across : ℕ) {w h along channels : ℕ} (plan : Plan w h along channe
       let both = b .both n g in
       let m = b .pair in
       ⊎-elim
-        (λ even.
-          let here : beside k ≡ 2 * m + 1 = ap beside even ∙ beside-even m in
-          (omega arith, ap (link-at n) here ∙ both .1 ∙ ap turned (sym (ap (link-at n) even ∙ both .0))))
-        (λ odd.
-          let here : beside k ≡ 2 * m = ap beside odd ∙ beside-odd m in
-          (omega arith, ap (link-at n) here ∙ both .0 ∙ ap turned (sym (ap (link-at n) odd ∙ both .1))))
-        (b .which)
+      (λ even.
+      let here : beside k ≡ 2 * m + 1 = ap beside even ∙ beside-even m in
+      (omega arith, ap (link-at n) here ∙ both .1 ∙ ap turned (sym (ap (link-at n) even ∙ both .0))))
+      (λ odd.
+      let here : beside k ≡ 2 * m = ap beside odd ∙ beside-odd m in
+      (omega arith, ap (link-at n) here ∙ both .0 ∙ ap turned (sym (ap (link-at n) odd ∙ both .1))))
+      (b .which)
 
   -- the numbers determine the grid
   pub same-grid : (n m : Net) → Grid w h along across channels n → Grid w h along across channels m → n ≡ m
   same-grid n m g f =
       let counts : length (n .links) ≡ length (m .links) = g .count ∙ sym (f .count) in
       let each : (k : ℕ) → k < length (n .links) → link-at n k ≡ link-at m k = λ k lt.
-          let count = g .count in
-          let b = covered k (omega arith) in
-          ⊎-elim
-            (λ even. ap (link-at n) even ∙ b .both n g .0 ∙ sym (b .both m f .0) ∙ sym (ap (link-at m) even))
-            (λ odd. ap (link-at n) odd ∙ b .both n g .1 ∙ sym (b .both m f .1) ∙ sym (ap (link-at m) odd))
-            (b .which) in
+      let count = g .count in
+      let b = covered k (omega arith) in
+      ⊎-elim
+      (λ even. ap (link-at n) even ∙ b .both n g .0 ∙ sym (b .both m f .0) ∙ sym (ap (link-at m) even))
+      (λ odd. ap (link-at n) odd ∙ b .both n g .1 ∙ sym (b .both m f .1) ∙ sym (ap (link-at m) odd))
+      (b .which) in
       let links : n .links ≡ m .links = ext-getD no-link (n .links) (m .links) counts each in
       let sites : n .sites ≡ m .sites = g .sites ∙ sym (f .sites) in
       ap (λ s. net s (n .links)) sites ∙ ap (net (m .sites)) links

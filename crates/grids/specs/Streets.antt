@@ -78,6 +78,6 @@ turned l = record { start = l .end; end = l .start; metres = l .metres; poles = 
 abbrev pub Return-links-stand-beside : Type 0
 Return-links-stand-beside =
     (w h along across channels : ℕ) → grid-within w h along across channels ≡ true → (n : Net) → Grid w h along across channels n →
-      (length (n .links) ≡ 2 * h * (w - 1) + 2 * w * (h - 1))
-      × ((k : ℕ) → k < length (n .links) → (beside k < length (n .links)) × (link-at n (beside k) ≡ turned (link-at n k)))
-      × ((m : Net) → Grid w h along across channels m → n ≡ m)
+    (length (n .links) ≡ 2 * h * (w - 1) + 2 * w * (h - 1))
+    × ((k : ℕ) → k < length (n .links) → (beside k < length (n .links)) × (link-at n (beside k) ≡ turned (link-at n k)))
+    × ((m : Net) → Grid w h along across channels m → n ≡ m)

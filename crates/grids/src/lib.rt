@@ -1,4 +1,4 @@
-// Street grids: districts planned as columns and rows of sites, each street a link there and a link back.
+//! Street grids: districts planned as columns and rows of sites, each street a link there and a link back.
 ghost use mathlib.Core.Path.{_≡_};
 ghost use mathlib.Core.Bool.{true};
 ghost use mathlib.Core.List.{[], _∷_, _++_};
@@ -39,7 +39,13 @@ fn is_within(columns: u16, rows: u16, along: u32, across: u32, channels: u16) ->
 }
 
 // Adds a street's two links, there and back.
-fn add_street(network: &mut OwnedNetwork, from: u16, to: u16, metres: u32, channels: u16) -> Result<(), BuildRefusal>
+fn add_street(
+    network: &mut OwnedNetwork,
+    from: u16,
+    to: u16,
+    metres: u32,
+    channels: u16,
+) -> Result<(), BuildRefusal>
     requires there { ⌜ link-sound (owned-meaning (now network) .sites) (street from to metres channels) ≡ true ⌝ }
     requires back { ⌜ link-sound (owned-meaning (now network) .sites) (street to from metres channels) ≡ true ⌝ }
     requires room { ⌜ length (owned-meaning (now network) .links) + 2 ≤ 2048 ⌝ }
@@ -50,7 +56,13 @@ fn add_street(network: &mut OwnedNetwork, from: u16, to: u16, metres: u32, chann
 }
 
 // Adds the streets along the rows.
-fn add_rows(network: &mut OwnedNetwork, columns: u16, rows: u16, metres: u32, channels: u16) -> Result<(), BuildRefusal>
+fn add_rows(
+    network: &mut OwnedNetwork,
+    columns: u16,
+    rows: u16,
+    metres: u32,
+    channels: u16,
+) -> Result<(), BuildRefusal>
     requires plan { ⌜ Plan columns rows metres channels ⌝ }
     requires bare { ⌜ owned-meaning (now network) ≡ net (columns * rows) [] ⌝ }
     ensures { λ r. ⌜ Cases r (λ _. owned-meaning (now (network .exit)) ≡ net (columns * rows) (two-ways (row-site columns) 1 metres channels (rows * (columns - 1)))) (λ e. e ≡ Memory) ⌝ }
@@ -64,7 +76,13 @@ fn add_rows(network: &mut OwnedNetwork, columns: u16, rows: u16, metres: u32, ch
 }
 
 // Adds the streets across the rows.
-fn add_columns(network: &mut OwnedNetwork, columns: u16, rows: u16, metres: u32, channels: u16) -> Result<(), BuildRefusal>
+fn add_columns(
+    network: &mut OwnedNetwork,
+    columns: u16,
+    rows: u16,
+    metres: u32,
+    channels: u16,
+) -> Result<(), BuildRefusal>
     requires plan { ⌜ Plan columns rows metres channels ⌝ }
     requires sites { ⌜ owned-meaning (now network) .sites ≡ columns * rows ⌝ }
     requires links { ⌜ length (owned-meaning (now network) .links) ≡ 2 * (rows * (columns - 1)) ⌝ }
@@ -76,8 +94,15 @@ fn add_columns(network: &mut OwnedNetwork, columns: u16, rows: u16, metres: u32,
     Ok(())
 }
 
-// A grid of so many columns and rows, with streets of one length along the rows and another across, and channels alike.
-pub fn street_grid(heap: Global, columns: u16, rows: u16, along: u32, across: u32, channels: u16) -> Result<OwnedNetwork, BuildRefusal>
+/// A grid of so many columns and rows, with streets of one length along the rows and another across, and channels alike.
+pub fn street_grid(
+    heap: Global,
+    columns: u16,
+    rows: u16,
+    along: u32,
+    across: u32,
+    channels: u16,
+) -> Result<OwnedNetwork, BuildRefusal>
     ensures { λ r. ⌜ Made columns rows along across channels r ⌝ }
 {
     if !is_within(columns, rows, along, across, channels) {
@@ -89,7 +114,7 @@ pub fn street_grid(heap: Global, columns: u16, rows: u16, along: u32, across: u3
     Ok(network)
 }
 
-// Theorem: in every grid each link has its return link beside it, and the grid's numbers determine it.
+/// Theorem: in every grid each link has its return link beside it, and the grid's numbers determine it.
 pub fn return_links_stand_beside() -> u8
     ensures { λ _. ⌜ Return-links-stand-beside ⌝ }
 {

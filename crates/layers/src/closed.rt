@@ -1,6 +1,6 @@
-// The closing layer: which links are closed, over the network below.
+//! The closing layer: which links are closed, over the network below.
 
-// A closed link shows as dark; everything else shows as below.
+/// A closed link shows as dark; everything else shows as below.
 #[derive(Drop)]
 pub struct Closing<N> {
     pub(crate) below: N,

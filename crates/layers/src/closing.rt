@@ -1,4 +1,4 @@
-// What the closing layer does: links are closed and reopened, and it meets the trait of networks.
+//! What the closing layer does: links are closed and reopened, and it meets the trait of networks.
 ghost use mathlib.Core.Path.{_≡_};
 ghost use mathlib.Core.Bool.{true, false, cond};
 ghost use Prim.Native.Nat.{ℕ};
@@ -11,16 +11,19 @@ use networks::model::NetworkRefusal;
 use networks::network::Network;
 
 impl<N: Network> Closing<N> {
-    // A layer over a network, with nothing closed.
+    /// A layer over a network, with nothing closed.
     pub fn over(below: N) -> Closing<N>
         ensures below { λ r. ⌜ r .below ≡ below ⌝ }
         ensures nothing { λ r. ⌜ ((k : ℕ) → marks r k ≡ false) ⌝ }
         ensures shows { λ r. ⌜ closed-over (marks r) (N·Network .meaning below) ≡ N·Network .meaning below ⌝ }
     {
-        Closing { below, closed: [false; 2048] }
+        Closing {
+            below,
+            closed: [false; 2048],
+        }
     }
 
-    // Closes a link; a closed one stays closed.
+    /// Closes a link; a closed one stays closed.
     pub fn close(&mut self, link: u16) -> Result<(), NetworkRefusal>
         ensures answer { λ r. ⌜ r ≡ told (λ _. tt) (N·Network .meaning (now (self .entry) .below)) link ⌝ }
         ensures below { λ _. ⌜ now (self .exit) .below ≡ now (self .entry) .below ⌝ }
@@ -34,7 +37,7 @@ impl<N: Network> Closing<N> {
         Ok(())
     }
 
-    // Reopens a link; an open one stays open.
+    /// Reopens a link; an open one stays open.
     pub fn reopen(&mut self, link: u16) -> Result<(), NetworkRefusal>
         ensures answer { λ r. ⌜ r ≡ told (λ _. tt) (N·Network .meaning (now (self .entry) .below)) link ⌝ }
         ensures below { λ _. ⌜ now (self .exit) .below ≡ now (self .entry) .below ⌝ }
@@ -48,7 +51,7 @@ impl<N: Network> Closing<N> {
         Ok(())
     }
 
-    // Hands the network below out again.
+    /// Hands the network below out again.
     pub fn into_below(self) -> N
         ensures { λ r. ⌜ r ≡ self .below ⌝ }
     {

@@ -1,4 +1,4 @@
-// What the surcharge layer does: amounts are set, and it meets the trait of networks.
+//! What the surcharge layer does: amounts are set, and it meets the trait of networks.
 ghost use mathlib.Core.Path.{_≡_};
 ghost use mathlib.Core.Bool.{true, cond};
 ghost use Prim.Native.Nat.{ℕ};
@@ -15,16 +15,19 @@ use networks::network::Network;
 const MOST: u32 = 1_000_000;
 
 impl<N: Network> Surcharge<N> {
-    // A layer over a network, with every amount zero.
+    /// A layer over a network, with every amount zero.
     pub fn over(below: N) -> Surcharge<N>
         ensures below { λ r. ⌜ r .below ≡ below ⌝ }
         ensures zero { λ r. ⌜ ((k : ℕ) → amounts r k ≡ 0) ⌝ }
         ensures shows { λ r. ⌜ charged-over (amounts r) (N·Network .meaning below) ≡ N·Network .meaning below ⌝ }
     {
-        Surcharge { below, amounts: [0; 2048] }
+        Surcharge {
+            below,
+            amounts: [0; 2048],
+        }
     }
 
-    // Sets the amount on a link, in the place of the one before.
+    /// Sets the amount on a link, in the place of the one before.
     pub fn surcharge(&mut self, link: u16, amount: u32) -> Result<(), SurchargeRefusal>
         ensures answer { λ r. ⌜ r ≡ surcharge-answer (N·Network .meaning (now (self .entry) .below)) link amount ⌝ }
         ensures below { λ _. ⌜ now (self .exit) .below ≡ now (self .entry) .below ⌝ }
@@ -41,7 +44,7 @@ impl<N: Network> Surcharge<N> {
         Ok(())
     }
 
-    // Hands the network below out again.
+    /// Hands the network below out again.
     pub fn into_below(self) -> N
         ensures { λ r. ⌜ r ≡ self .below ⌝ }
     {

@@ -86,24 +86,24 @@ module _ {C : Type 0} {k : Ops C} (laws : Laws k) (v : View C) (sight : Sound-vi
   unfolding survey
   survey-right w =
       ⊎-elim
-        (λ same.
-          let at : cond (eqb w root) root-entry (entry-of (answer k v root w)) ≡ root-entry = cond-true (eqb w root) root-entry (entry-of (answer k v root w)) (eq-eqb w root same) in
-          record {
-            says = subst (Right-entry k v root w) (sym at) same;
-            at-root = λ _. at;
-            none = λ other. absurd (other same);
-            cut = λ other. absurd (other same);
-            two = λ other. absurd (other same);
-          })
-        (λ other.
-          let true-answer = says w (λ e. other (sym e)) in
-          let whole = exactly k v root w (answer k v root w) true-answer in
-          let at : cond (eqb w root) root-entry (entry-of (answer k v root w)) ≡ entry-of (answer k v root w) = cond-false (eqb w root) root-entry (entry-of (answer k v root w)) (ne-eqb w root other) in
-          record {
-            says = subst (Right-entry k v root w) (sym at) (entry-says w (answer k v root w) true-answer);
-            at-root = λ same. absurd (other same);
-            none = λ _ n. at ∙ ap entry-of (whole .none n);
-            cut = λ _ e es r s. let c = whole .cut e es r s in (c .0, at ∙ ap entry-of (c .1));
-            two = λ _ one two p. let c = whole .two one two p in (c .2, at ∙ ap entry-of (c .3));
-          })
-        (cases-eq w root)
+      (λ same.
+      let at : cond (eqb w root) root-entry (entry-of (answer k v root w)) ≡ root-entry = cond-true (eqb w root) root-entry (entry-of (answer k v root w)) (eq-eqb w root same) in
+      record {
+        says = subst (Right-entry k v root w) (sym at) same;
+        at-root = λ _. at;
+        none = λ other. absurd (other same);
+        cut = λ other. absurd (other same);
+        two = λ other. absurd (other same);
+      })
+      (λ other.
+      let true-answer = says w (λ e. other (sym e)) in
+      let whole = exactly k v root w (answer k v root w) true-answer in
+      let at : cond (eqb w root) root-entry (entry-of (answer k v root w)) ≡ entry-of (answer k v root w) = cond-false (eqb w root) root-entry (entry-of (answer k v root w)) (ne-eqb w root other) in
+      record {
+        says = subst (Right-entry k v root w) (sym at) (entry-says w (answer k v root w) true-answer);
+        at-root = λ same. absurd (other same);
+        none = λ _ n. at ∙ ap entry-of (whole .none n);
+        cut = λ _ e es r s. let c = whole .cut e es r s in (c .0, at ∙ ap entry-of (c .1));
+        two = λ _ one two p. let c = whole .two one two p in (c .2, at ∙ ap entry-of (c .3));
+      })
+      (cases-eq w root)

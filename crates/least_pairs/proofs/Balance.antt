@@ -88,9 +88,9 @@ module _ {C : Type 0} {k : Ops C} (laws : Laws k) (v : View C) (sound : Sound-vi
       let feed = fed q (sl .turn-first t m d labelled ys now) in
       let S = feed .before in
       let then : Moment (second .order) q S = record {
-            later = now .later ++ t ∷ feed .moment .later;
-            whole = now .whole ∙ ap (λ Y. now .later ++ t ∷ Y) (feed .moment .whole) ∙ sym (append-assoc (now .later) (t ∷ feed .moment .later) (q ∷ S));
-          } in
+        later = now .later ++ t ∷ feed .moment .later;
+        whole = now .whole ∙ ap (λ Y. now .later ++ t ∷ Y) (feed .moment .whole) ∙ sym (append-assoc (now .later) (t ∷ feed .moment .later) (q ∷ S));
+      } in
       let at-once : r .0 ≡ S = moment-unique sl q (r .0) S (r .2 .moment) then in
       let considers : second-job k v root first .considers q S e ≡ true = subst (λ Y. second-job k v root first .considers q Y e ≡ true) at-once (r .2 .considers) in
       let a = and-parts (v .usable e && not (tree-link v first root e)) ((joined (up first) S q (v .start e) && joined (up first) S q (v .end e)) && (not (eqb (v .end e) q) && (eqb (v .start e) q || not (joined (up first) (q ∷ S) (v .start e) (v .end e))))) considers in
@@ -101,10 +101,10 @@ module _ {C : Type 0} {k : Ops C} (laws : Laws k) (v : View C) (sound : Sound-vi
       let hu : top-of first S (v .start e) ≡ Some (feed .z) = joined-has-top fl S q (v .start e) (feed .z) (feed .is-top) (j .0) in
       let ht : top-of first S t ≡ Some (feed .z) = subst (λ w. top-of first S w ≡ Some (feed .z)) (r .3) (joined-has-top fl S q (v .end e) (feed .z) (feed .is-top) (j .1)) in
       let parted : (v .start e ≡ q) ⊎ (joined (up first) (q ∷ S) (v .start e) t ≡ false) =
-            elim (or-cases (eqb (v .start e) q) (not (joined (up first) (q ∷ S) (v .start e) (v .end e))) (f .1)) [
-              | inl s ↦ inl (eqb-true (v .start e) q s)
-              | inr n ↦ inr (subst (λ w. joined (up first) (q ∷ S) (v .start e) w ≡ false) (r .3) (not-true (joined (up first) (q ∷ S) (v .start e) (v .end e)) n))
-            ] in
+      elim (or-cases (eqb (v .start e) q) (not (joined (up first) (q ∷ S) (v .start e) (v .end e))) (f .1)) [
+        | inl s ↦ inl (eqb-true (v .start e) q s)
+        | inr n ↦ inr (subst (λ w. joined (up first) (q ∷ S) (v .start e) w ≡ false) (r .3) (not-true (joined (up first) (q ∷ S) (v .start e) (v .end e)) n))
+      ] in
       let cost : m .cost ≡ k .plus (feed .label .cost) (reduced k v first e) = r .5 ∙ ap (λ l. k .plus (l .cost) (reduced k v first e)) (some-same (r .4) (feed .labelled)) in
       grown laws v sound fl ys t m labelled d (moment-new sl t ys now) feed (b .0) (not-true (tree-link v first root e) (b .1)) (r .3) hu ht parted cost
 
@@ -116,9 +116,9 @@ module _ {C : Type 0} {k : Ops C} (laws : Laws k) (v : View C) (sound : Sound-vi
       let before : (x : ℕ) → has x ys ≡ true → Feeds k v root first second ys x = λ x g. feeds ys (front ++ y ∷ []) (whole ∙ sym (append-assoc front (y ∷ []) ys)) x g in
       elim (has-cases q y ys h) [
         | inl s ↦ elim (cases-eq y root) [
-            | inl r ↦ subst (λ w. Feeds k v root first second (y ∷ ys) w) (sym s) (subst (λ w. Feeds k v root first second (w ∷ ys) w) (sym r) (feeds-root ys (subst (λ w. Moment (second .order) w ys) r now)))
-            | inr d ↦ subst (λ w. Feeds k v root first second (y ∷ ys) w) (sym s) (feeds-more y ys now d before)
-          ]
+          | inl r ↦ subst (λ w. Feeds k v root first second (y ∷ ys) w) (sym s) (subst (λ w. Feeds k v root first second (w ∷ ys) w) (sym r) (feeds-root ys (subst (λ w. Moment (second .order) w ys) r now)))
+          | inr d ↦ subst (λ w. Feeds k v root first second (y ∷ ys) w) (sym s) (feeds-more y ys now d before)
+        ]
         | inr i ↦ feeds-past y ys q (λ s. both-ways (has y ys) (moment-new sl y ys now) (subst (λ w. has w ys ≡ true) s i)) (before q i)
       ]
 
@@ -133,22 +133,21 @@ flow-cost {C} {k} laws v root target first F at-root balance =
     let a = total k (λ e. d (v .start e)) F in
     let b = total k (λ e. d (v .end e)) F in
     let spread : total k (reduced k v first) F ≡ k .plus (k .plus c a) (k .negation b) =
-          total-plus laws (λ e. k .plus (v .cost e) (d (v .start e))) (λ e. k .negation (d (v .end e))) F
-          ∙ ap (λ y. k .plus y (total k (λ e. k .negation (d (v .end e))) F)) (total-plus laws (v .cost) (λ e. d (v .start e)) F)
-          ∙ ap (k .plus (k .plus c a)) (total-negation laws (λ e. d (v .end e)) F) in
+    total-plus laws (λ e. k .plus (v .cost e) (d (v .start e))) (λ e. k .negation (d (v .end e))) F
+    ∙ ap (λ y. k .plus y (total k (λ e. k .negation (d (v .end e))) F)) (total-plus laws (v .cost) (λ e. d (v .start e)) F)
+    ∙ ap (k .plus (k .plus c a)) (total-negation laws (λ e. d (v .end e)) F) in
     let ends : b ≡ k .plus (d target) (k .plus (d target) a) =
-          sym (laws .zero-plus b)
-          ∙ sym (laws .zero-plus (k .plus (k .zero) b))
-          ∙ ap (λ o. k .plus o (k .plus o b)) (sym at-root)
-          ∙ ap (λ y. k .plus (d root) (k .plus (d root) y)) (sym (total-map k d (v .end) F))
-          ∙ sym (total-counted laws d (target ∷ target ∷ map (v .start) F) (root ∷ root ∷ map (v .end) F) balance)
-          ∙ ap (λ y. k .plus (d target) (k .plus (d target) y)) (total-map k d (v .start) F) in
+    sym (laws .zero-plus b)
+    ∙ sym (laws .zero-plus (k .plus (k .zero) b))
+    ∙ ap (λ o. k .plus o (k .plus o b)) (sym at-root)
+    ∙ ap (λ y. k .plus (d root) (k .plus (d root) y)) (sym (total-map k d (v .end) F))
+    ∙ sym (total-counted laws d (target ∷ target ∷ map (v .start) F) (root ∷ root ∷ map (v .end) F) balance)
+    ∙ ap (λ y. k .plus (d target) (k .plus (d target) y)) (total-map k d (v .start) F) in
     sym (ap (λ y. k .plus y (k .plus (d target) (d target))) (spread ∙ ap (λ y. k .plus (k .plus c a) (k .negation y)) ends)
     ∙ group laws (c ∷ a ∷ d target ∷ []) (search quoting depth 12) tt)
 
 module _ {C : Type 0} {k : Ops C} (laws : Laws k) (v : View C) (sound : Sound-view k v) {root : ℕ} {first second : State C} (fl : Run-laws k (first-job v) root first) (sl : Run-laws k (second-job k v root first) root second)
-  (target : ℕ) (other : target ≡ root → ⊥) (feed : Feeds k v root first second (second .order) target) where
-
+    (target : ℕ) (other : target ≡ root → ⊥) (feed : Feeds k v root first second (second .order) target) where
   -- the climb from the target to the top of its piece
   last : (X : List ℕ) × Climb first target (feed .z) X
   last = climb-of fl (feed .z) target (top-above fl (feed .before) target (feed .z) (feed .is-top) .0)
@@ -183,8 +182,13 @@ module _ {C : Type 0} {k : Ops C} (laws : Laws k) (v : View C) (sound : Sound-vi
 
   closed-balance : (x : ℕ) → hit x target + (hit x target + occurs x (map (v .start) closed)) ≡ hit x root + (hit x root + occurs x (map (v .end) closed))
   closed-balance x =
-      omega (arith, feed .balance x, climb-balance laws v sound fl x target (feed .z) (last .0) (last .1) z-reached,
-        occurs-map-append (v .start) x (climb-links first (last .0)) (feed .links), occurs-map-append (v .end) x (climb-links first (last .0)) (feed .links))
+      omega (
+        arith,
+        feed .balance x,
+        climb-balance laws v sound fl x target (feed .z) (last .0) (last .1) z-reached,
+        occurs-map-append (v .start) x (climb-links first (last .0)) (feed .links),
+        occurs-map-append (v .end) x (climb-links first (last .0)) (feed .links),
+      )
 
   -- together they are a flow of two from the root to the target
   closed-flow : Flow-of-two v first second root target closed
@@ -204,10 +208,10 @@ module _ {C : Type 0} {k : Ops C} (laws : Laws k) (v : View C) (sound : Sound-vi
   closed-cost =
       flow-cost laws v root target first closed (ap (cost-of k) (fl .root-label)) (λ x. closed-balance x)
       ∙ ap (λ y. k .plus y (k .plus (cost-of k (first .labels target)) (cost-of k (first .labels target))))
-        (total-append laws (reduced k v first) (climb-links first (last .0)) (feed .links)
-        ∙ ap (λ y. k .plus y (total k (reduced k v first) (feed .links))) (climb-free laws v sound fl target (feed .z) (last .0) (last .1) z-reached)
-        ∙ laws .zero-plus (total k (reduced k v first) (feed .links))
-        ∙ feed .costs)
+      (total-append laws (reduced k v first) (climb-links first (last .0)) (feed .links)
+      ∙ ap (λ y. k .plus y (total k (reduced k v first) (feed .links))) (climb-free laws v sound fl target (feed .z) (last .0) (last .1) z-reached)
+      ∙ laws .zero-plus (total k (reduced k v first) (feed .links))
+      ∙ feed .costs)
 
   -- whether a site is in the target's piece
   abbrev in-last-piece : ℕ → Bool
@@ -227,9 +231,11 @@ module _ {C : Type 0} {k : Ops C} (laws : Laws k) (v : View C) (sound : Sound-vi
       let p = in-last e h in
       let x = v .end e in
       let there : (y : ℕ) → top-of first (feed .before) y ≡ Some (feed .z) → in-last-piece y ≡ true = λ y g. top-joined fl (feed .before) target y (feed .z) (feed .is-top) g in
-      let within = last-within x (p .1) in
-      (subst (λ w. in-last-piece w ≡ true) (sym (tree-starts laws v sound fl e (last-on-tree e h)))
-        (there (parent (first .labels) x) (top-inner fl (feed .before) x (feed .z) within (climb-apart fl target (feed .z) x (last .0) (last .1) z-reached (p .1)))), there x within)
+      let within = last-within x (p .1) in (
+        subst (λ w. in-last-piece w ≡ true) (sym (tree-starts laws v sound fl e (last-on-tree e h)))
+            (there (parent (first .labels) x) (top-inner fl (feed .before) x (feed .z) within (climb-apart fl target (feed .z) x (last .0) (last .1) z-reached (p .1)))),
+        there x within,
+      )
 
   old-outside : (e : ℕ) → 1 ≤ occurs e (feed .links) → in-last-piece (v .start e) ≡ false
   old-outside e i =
@@ -243,8 +249,7 @@ module _ {C : Type 0} {k : Ops C} (laws : Laws k) (v : View C) (sound : Sound-vi
   closed-acyclic = acyclic-join v in-last-piece (climb-links first (last .0)) (feed .links) closed closed-either last-in-piece old-outside (tree-acyclic laws v sound fl (climb-links first (last .0)) last-on-tree) (feed .acyclic)
 
 module _ {C : Type 0} {k : Ops C} (laws : Laws k) (v : View C) (sound : Sound-view k v) {root : ℕ} {first second : State C} (fl : Run-laws k (first-job v) root first) (sl : Run-laws k (second-job k v root first) root second)
-  (target : ℕ) (other : target ≡ root → ⊥) (l : Label C) (labelled : second .labels target ≡ Some l) where
-
+    (target : ℕ) (other : target ≡ root → ⊥) (l : Label C) (labelled : second .labels target ≡ Some l) where
   target-fed : Feeds k v root first second (second .order) target
   target-fed = feeds laws v sound fl sl (second .order) [] refl target (sl .is-settled target l labelled)
 
@@ -257,8 +262,8 @@ module _ {C : Type 0} {k : Ops C} (laws : Laws k) (v : View C) (sound : Sound-vi
   reads-at-most d reached =
       le-trans laws (walks-cost laws v sound first second root target other (closed laws v sound fl sl target other target-fed) (closed-flow laws v sound fl sl target other target-fed))
       (le-same laws (closed-cost laws v sound fl sl target other target-fed
-        ∙ ap (λ m. k .plus (m .cost) (k .plus (cost-of k (first .labels target)) (cost-of k (first .labels target)))) (some-same (target-fed .labelled) labelled)
-        ∙ ap (λ o. k .plus (l .cost) (k .plus (cost-of k o) (cost-of k o))) reached))
+      ∙ ap (λ m. k .plus (m .cost) (k .plus (cost-of k (first .labels target)) (cost-of k (first .labels target)))) (some-same (target-fed .labelled) labelled)
+      ∙ ap (λ o. k .plus (l .cost) (k .plus (cost-of k o) (cost-of k o))) reached))
 
   -- neither of its routes visits a site twice, and each has fewer links than there are sites
   pub reads-short : Short v root (pair-read v first second root target .0) × Short v root (pair-read v first second root target .1)
@@ -266,9 +271,10 @@ module _ {C : Type 0} {k : Ops C} (laws : Laws k) (v : View C) (sound : Sound-vi
       let F = closed laws v sound fl sl target other target-fed in
       let most = walks-within laws v sound first second root target other F (closed-flow laws v sound fl sl target other target-fed) in
       let none = closed-acyclic laws v sound fl sl target other target-fed in
-      let is : root < v .sites = fl .sites root (root-reached fl) in
-      (short-walk v sound F none root target (pair-read v first second root target .0) is (reads-a-pair .first .leads) (λ e h. omega (arith, h, most e)) (reads-a-pair .first .some),
-       short-walk v sound F none root target (pair-read v first second root target .1) is (reads-a-pair .second .leads) (λ e h. omega (arith, h, most e)) (reads-a-pair .second .some))
+      let is : root < v .sites = fl .sites root (root-reached fl) in (
+        short-walk v sound F none root target (pair-read v first second root target .0) is (reads-a-pair .first .leads) (λ e h. omega (arith, h, most e)) (reads-a-pair .first .some),
+        short-walk v sound F none root target (pair-read v first second root target .1) is (reads-a-pair .second .leads) (λ e h. omega (arith, h, most e)) (reads-a-pair .second .some),
+      )
 
 -- every struck site other than the root has a pair
 pub pairs : {C : Type 0} {k : Ops C} (laws : Laws k) (v : View C) (sound : Sound-view k v) {root : ℕ} {first second : State C} → Run-laws k (first-job v) root first → Run-laws k (second-job k v root first) root second → (w : ℕ) (l : Label C) → second .labels w ≡ Some l → (w ≡ root → ⊥) → (one : List ℕ) × (two : List ℕ) × Pair v root w one two

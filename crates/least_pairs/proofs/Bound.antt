@@ -38,10 +38,10 @@ module _ {C : Type 0} {k : Ops C} {v : View C} {root : ℕ} {first second : Stat
   potential-in t w x [] S h f = cond-true (joined (up first) S w t) (cost-of k (second .labels x)) (potential k first second t S w) h
   potential-in t w x (y ∷ mid) S h f =
       let apart : joined (up first) (mid ++ x ∷ S) w t ≡ false =
-            elim (cases-bool (joined (up first) (mid ++ x ∷ S) w t)) [
-              | inl q ↦ absurd (both-ways (joined (up first) (x ∷ S) w t) f (joined-before laws sound tree run mid (x ∷ S) w t q))
-              | inr q ↦ q
-            ] in
+      elim (cases-bool (joined (up first) (mid ++ x ∷ S) w t)) [
+        | inl q ↦ absurd (both-ways (joined (up first) (x ∷ S) w t) f (joined-before laws sound tree run mid (x ∷ S) w t q))
+        | inr q ↦ q
+      ] in
       cond-false (joined (up first) (mid ++ x ∷ S) w t) (cost-of k (second .labels y)) (potential k first second t (mid ++ x ∷ S) w) apart
       ∙ potential-in t w x mid S h f
 
@@ -99,15 +99,15 @@ module _ {C : Type 0} {k : Ops C} {v : View C} {root : ℕ} {first second : Stat
         let p = target-parted a ha in
         let q = target-parted b hb in
         let le : Le k (cost-of k (second .labels (p .0))) (cost-of k (second .labels (q .0))) =
-              elim (split-cases (p .2 .moment .later) (q .2 .moment .later) (p .0) (q .0) (p .1) (q .1) (sym (p .2 .moment .whole) ∙ q .2 .moment .whole)) [
-                | inl e ↦ le-same laws (ap (λ z. cost-of k (second .labels z)) (e .0))
-                | inr (inl e) ↦
-                    absurd (both-ways (joined (up first) (q .0 ∷ q .1) b t) (q .2 .apart)
-                      (joined-before laws sound tree run (e .0) (q .0 ∷ q .1) b t (subst (λ S. joined (up first) S b t ≡ true) (e .1) (follows (p .1) (p .2 .together)))))
-                | inr (inr e) ↦
-                    rising-cost laws run (q .0) (q .1) (q .2 .moment) (p .0)
-                    (subst (λ S. has (p .0) S ≡ true) (sym (e .1)) (has-right (p .0) (e .0) (p .0 ∷ p .1) (has-head (p .0) (p .1))))
-              ] in
+        elim (split-cases (p .2 .moment .later) (q .2 .moment .later) (p .0) (q .0) (p .1) (q .1) (sym (p .2 .moment .whole) ∙ q .2 .moment .whole)) [
+          | inl e ↦ le-same laws (ap (λ z. cost-of k (second .labels z)) (e .0))
+          | inr (inl e) ↦
+              absurd (both-ways (joined (up first) (q .0 ∷ q .1) b t) (q .2 .apart)
+              (joined-before laws sound tree run (e .0) (q .0 ∷ q .1) b t (subst (λ S. joined (up first) S b t ≡ true) (e .1) (follows (p .1) (p .2 .together)))))
+          | inr (inr e) ↦
+              rising-cost laws run (q .0) (q .1) (q .2 .moment) (p .0)
+              (subst (λ S. has (p .0) S ≡ true) (sym (e .1)) (has-right (p .0) (e .0) (p .0 ∷ p .1) (has-head (p .0) (p .1))))
+        ] in
         subst (λ c. Le k c (for-target b)) (sym (potential-parted t a (p .0) (p .1) (p .2)))
         (subst (λ c. Le k (cost-of k (second .labels (p .0))) c) (sym (potential-parted t b (q .0) (q .1) (q .2))) le)
 
@@ -119,10 +119,10 @@ module _ {C : Type 0} {k : Ops C} {v : View C} {root : ℕ} {first second : Stat
         let bt : joined (up first) (x ∷ S) b t ≡ true = joined-before laws sound tree run mid (x ∷ S) b t (subst (λ l. joined (up first) l b t ≡ true) d (q .together)) in
         let ab : joined (up first) S a b ≡ true = joined-trans tree S a t b (p .together) (joined-sym tree S b t (joined-fewer tree x S b t bt)) in
         let parts : joined (up first) (x ∷ S) a b ≡ false =
-              elim (cases-bool (joined (up first) (x ∷ S) a b)) [
-                | inl j ↦ absurd (both-ways (joined (up first) (x ∷ S) a t) (p .apart) (joined-trans tree (x ∷ S) a b t j bt))
-                | inr f ↦ f
-              ] in
+        elim (cases-bool (joined (up first) (x ∷ S) a b)) [
+          | inl j ↦ absurd (both-ways (joined (up first) (x ∷ S) a t) (p .apart) (joined-trans tree (x ∷ S) a b t j bt))
+          | inr f ↦ f
+        ] in
         let o = parting-offers laws sound tree run e x S h nt (record { moment = p .moment; together = ab; apart = parts }) (lacks-head b x S (joined-free tree (x ∷ S) b t bt)) in
         le-trans laws (later-cost laws run y T (q .moment) b (run .is-settled b (o .0) (o .1)) (joined-free tree T b t (q .together)))
         (subst (λ c. Le k c (k .plus (cost-of k (second .labels x)) (reduced k v first e))) (sym (ap (cost-of k) (o .1))) (o .2))
@@ -139,14 +139,14 @@ module _ {C : Type 0} {k : Ops C} {v : View C} {root : ℕ} {first second : Stat
         let cp = cost-of k (second .labels (p .0)) in
         let cq = cost-of k (second .labels (q .0)) in
         let le : Le k cq (k .plus cp s) =
-              elim (split-cases (q .2 .moment .later) (p .2 .moment .later) (q .0) (p .0) (q .1) (p .1) (sym (q .2 .moment .whole) ∙ p .2 .moment .whole)) [
-                | inl d ↦ le-trans laws (le-same laws (ap (λ z. cost-of k (second .labels z)) (d .0))) (le-plus-right laws cp low)
-                | inr (inl d) ↦ potential-later e (p .0) (q .0) (p .1) (q .1) (d .0) h nt (p .2) (q .2) (d .1)
-                | inr (inr d) ↦
-                    le-trans laws
-                    (rising-cost laws run (p .0) (p .1) (p .2 .moment) (q .0) (subst (λ S. has (q .0) S ≡ true) (sym (d .1)) (has-right (q .0) (d .0) (q .0 ∷ q .1) (has-head (q .0) (q .1)))))
-                    (le-plus-right laws cp low)
-              ] in
+        elim (split-cases (q .2 .moment .later) (p .2 .moment .later) (q .0) (p .0) (q .1) (p .1) (sym (q .2 .moment .whole) ∙ p .2 .moment .whole)) [
+          | inl d ↦ le-trans laws (le-same laws (ap (λ z. cost-of k (second .labels z)) (d .0))) (le-plus-right laws cp low)
+          | inr (inl d) ↦ potential-later e (p .0) (q .0) (p .1) (q .1) (d .0) h nt (p .2) (q .2) (d .1)
+          | inr (inr d) ↦
+              le-trans laws
+              (rising-cost laws run (p .0) (p .1) (p .2 .moment) (q .0) (subst (λ S. has (q .0) S ≡ true) (sym (d .1)) (has-right (q .0) (d .0) (q .0 ∷ q .1) (has-head (q .0) (q .1)))))
+              (le-plus-right laws cp low)
+        ] in
         subst (λ c. Le k c (k .plus (for-target a) s)) (sym (potential-parted t b (q .0) (q .1) (q .2)))
         (subst (λ c. Le k cq (k .plus c s)) (sym (potential-parted t a (p .0) (p .1) (p .2))) le)
 
@@ -216,29 +216,29 @@ module _ {C : Type 0} {k : Ops C} {v : View C} {root : ℕ} {first second : Stat
         let c = cost-of k (second .labels t) in
         let single : (e : ℕ) → occurs e (one ++ two) ≤ 1 = λ e. omega (arith, occurs-append e one two, p .apart e) in
         let usable : (e : ℕ) → has e (one ++ two) ≡ true → v .usable e ≡ true =
-              λ e h. elim (has-append e one two h) [
-                | inl a ↦ walk-usable v one root t (p .first .leads) e a
-                | inr b ↦ walk-usable v two root t (p .second .leads) e b
-              ] in
+        λ e h. elim (has-append e one two h) [
+          | inl a ↦ walk-usable v one root t (p .first .leads) e a
+          | inr b ↦ walk-usable v two root t (p .second .leads) e b
+        ] in
         let starts : (e : ℕ) → has e (one ++ two) ≡ true → has (v .start e) (first .order) ≡ true =
-              λ e h. elim (has-append e one two h) [
-                | inl a ↦ walk-starts laws sound tree one root t (p .first .leads) (root-reached tree) e a
-                | inr b ↦ walk-starts laws sound tree two root t (p .second .leads) (root-reached tree) e b
-              ] in
+        λ e h. elim (has-append e one two h) [
+          | inl a ↦ walk-starts laws sound tree one root t (p .first .leads) (root-reached tree) e a
+          | inr b ↦ walk-starts laws sound tree two root t (p .second .leads) (root-reached tree) e b
+        ] in
         let charged : Le k (total k f (one ++ two)) (k .plus (total k g (one ++ two)) (total k f target-route)) =
-              total-charged laws v f g (one ++ two) target-route single
-              (λ e h. rise-most e (usable e h) (starts e h))
-              (λ e h. reduced-least laws sound tree e (usable e h) (starts e h))
-              rise-least in
+        total-charged laws v f g (one ++ two) target-route single
+        (λ e h. rise-most e (usable e h) (starts e h))
+        (λ e h. reduced-least laws sound tree e (usable e h) (starts e h))
+        rise-least in
         let left : total k f (one ++ two) ≡ k .plus c c =
-              total-append laws f one two
-              ∙ ap (λ z. k .plus z (total k f two)) (rise-walk one (p .first .leads))
-              ∙ ap (k .plus c) (rise-walk two (p .second .leads)) in
+        total-append laws f one two
+        ∙ ap (λ z. k .plus z (total k f two)) (rise-walk one (p .first .leads))
+        ∙ ap (k .plus c) (rise-walk two (p .second .leads)) in
         let right : k .plus (total k g (one ++ two)) (total k f target-route) ≡ k .plus (k .plus (total k g one) (total k g two)) c =
-              ap (λ z. k .plus z (total k f target-route)) (total-append laws g one two)
-              ∙ ap (k .plus (k .plus (total k g one) (total k g two))) (rise-walk target-route (tree-route-walk laws sound tree t reached)) in
+        ap (λ z. k .plus z (total k f target-route)) (total-append laws g one two)
+        ∙ ap (k .plus (k .plus (total k g one) (total k g two))) (rise-walk target-route (tree-route-walk laws sound tree t reached)) in
         let whole : Le k (k .plus c c) (k .plus (k .plus (total k g one) (total k g two)) c) =
-              subst (λ z. Le k z (k .plus (k .plus (total k g one) (total k g two)) c)) left (subst (λ z. Le k (total k f (one ++ two)) z) right charged) in
+        subst (λ z. Le k z (k .plus (k .plus (total k g one) (total k g two)) c)) left (subst (λ z. Le k (total k f (one ++ two)) z) right charged) in
         le-cancel laws c whole
 
   -- no pair to a site costs less than its second label and twice its distance
@@ -250,11 +250,11 @@ module _ {C : Type 0} {k : Ops C} {v : View C} {root : ℕ} {first second : Stat
       let b = total k (reduced k v first) two in
       let below : Le k (l .cost) (k .plus a b) = subst (λ c. Le k c (k .plus a b)) (ap (cost-of k) hl) (reduced-pair t reached struck one two p) in
       let each : (es : List ℕ) → Walk v root es t → cost k v es ≡ k .plus (d .cost) (total k (reduced k v first) es) =
-            λ es w.
-              total-reduced laws v first es root t w
-              ∙ ap (λ c. k .plus (k .plus c (k .negation (cost-of k (first .labels root)))) (total k (reduced k v first) es)) (ap (cost-of k) hd)
-              ∙ ap (λ c. k .plus (k .plus (d .cost) (k .negation c)) (total k (reduced k v first) es)) (root-distance laws sound tree)
-              ∙ group laws (d .cost ∷ total k (reduced k v first) es ∷ []) (search quoting depth 12) tt in
+      λ es w.
+      total-reduced laws v first es root t w
+      ∙ ap (λ c. k .plus (k .plus c (k .negation (cost-of k (first .labels root)))) (total k (reduced k v first) es)) (ap (cost-of k) hd)
+      ∙ ap (λ c. k .plus (k .plus (d .cost) (k .negation c)) (total k (reduced k v first) es)) (root-distance laws sound tree)
+      ∙ group laws (d .cost ∷ total k (reduced k v first) es ∷ []) (search quoting depth 12) tt in
       le-trans laws
       (by-le laws (l .cost ∷ d .cost ∷ a ∷ b ∷ []) below (search quoting depth 12) tt)
       (le-same laws (sym (ap (λ z. k .plus z (cost k v two)) (each one (p .first .leads)) ∙ ap (k .plus (k .plus (d .cost) a)) (each two (p .second .leads)))))

@@ -39,27 +39,27 @@ module _ {C : Type 0} {k : Ops C} (laws : Laws k) (s : State C) where
         | inr q ↦ out l (subst (λ x. has x (s .order) ≡ false) q left) (subst (λ x. s .labels x ≡ Some l) q is)
       ]
   wider n (Some b) out h = record {
-      below = omega (arith, h .below);
-      unsettled = h .unsettled;
-      label = h .label;
-      labelled = h .labelled;
-      costs = h .costs;
-      least = λ z below left l is.
+    below = omega (arith, h .below);
+    unsettled = h .unsettled;
+    label = h .label;
+    labelled = h .labelled;
+    costs = h .costs;
+    least = λ z below left l is.
         elim (below-cases z n below) [
           | inl g ↦ h .least z g left l is
           | inr q ↦ absurd (out l (subst (λ x. has x (s .order) ≡ false) q left) (subst (λ x. s .labels x ≡ Some l) q is))
         ];
-    }
+  }
 
   -- the better of a site and of a choice is a choice
   better-is : (n : ℕ) (l : Label C) → has n (s .order) ≡ false → s .labels n ≡ Some l → (b : ℕ × C) → Next k s n (b .0) (b .1) → (t : Bool) → k .less (l .cost) (b .1) ≡ t → Choice k s (suc n) (cond t (Some (n, l .cost)) (Some b))
   better-is n l left is b h true less = record {
-      below = omega arith;
-      unsettled = left;
-      label = l;
-      labelled = is;
-      costs = refl;
-      least = λ z below open-z m m-is.
+    below = omega arith;
+    unsettled = left;
+    label = l;
+    labelled = is;
+    costs = refl;
+    least = λ z below open-z m m-is.
         elim (below-cases z n below) [
           | inl g ↦
               let t = lt-le-trans laws less (h .least z g open-z m m-is .0) in
@@ -69,14 +69,14 @@ module _ {C : Type 0} {k : Ops C} (laws : Laws k) (s : State C) where
               let same : l ≡ m = cc in
               (le-same laws (ap (λ x. x .cost) same), λ _. omega arith)
         ];
-    }
+  }
   better-is n l left is b h false less = record {
-      below = omega (arith, h .below);
-      unsettled = h .unsettled;
-      label = h .label;
-      labelled = h .labelled;
-      costs = h .costs;
-      least = λ z below open-z m m-is.
+    below = omega (arith, h .below);
+    unsettled = h .unsettled;
+    label = h .label;
+    labelled = h .labelled;
+    costs = h .costs;
+    least = λ z below open-z m m-is.
         elim (below-cases z n below) [
           | inl g ↦ h .least z g open-z m m-is
           | inr q ↦
@@ -84,18 +84,18 @@ module _ {C : Type 0} {k : Ops C} (laws : Laws k) (s : State C) where
               let same : l ≡ m = cc in
               (subst (λ x. Le k (b .1) (x .cost)) same less, λ _. omega (arith, h .below))
         ];
-    }
+  }
 
   -- one site more that is not settled
   one-more : (n : ℕ) → has n (s .order) ≡ false → (o : Option (Label C)) → s .labels n ≡ o → (b : Option (ℕ × C)) → Choice k s n b → Choice k s (suc n) (better k n o b)
   one-more n left None is b h = wider n b (λ l _ some. let z : _≡_ {A = ℕ} 0 1 = cc in absurd (omega arith)) h
   one-more n left (Some l) is None h = record {
-      below = omega arith;
-      unsettled = left;
-      label = l;
-      labelled = is;
-      costs = refl;
-      least = λ z below open-z m m-is.
+    below = omega arith;
+    unsettled = left;
+    label = l;
+    labelled = is;
+    costs = refl;
+    least = λ z below open-z m m-is.
         elim (below-cases z n below) [
           | inl g ↦ absurd (h z g open-z m m-is)
           | inr q ↦
@@ -103,7 +103,7 @@ module _ {C : Type 0} {k : Ops C} (laws : Laws k) (s : State C) where
               let same : l ≡ m = cc in
               (le-same laws (ap (λ x. x .cost) same), λ _. omega arith)
         ];
-    }
+  }
   one-more n left (Some l) is (Some b) h = better-is n l left is b h (k .less (l .cost) (b .1)) refl
 
   -- what the choice among the sites below a number gives

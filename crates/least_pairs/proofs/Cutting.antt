@@ -66,15 +66,15 @@ module _ {C : Type 0} {k : Ops C} {v : View C} {root : ℕ} {first second : Stat
                 | inl s ↦ c .2 ∙ ap (λ w. link-of (first .labels w)) (some-same (top-self tree K b (c .0) (c .1) free s) (p .1) ∙ some-same (p .2) last)
                 | inr f ↦
                     absurd (both-ways (joined (up first) K a t) out
-                      (subst (λ w. joined (up first) K w t ≡ true) (sym starts)
-                      (joined-trans tree K (parent (first .labels) b) b t (joined-sym tree K b (parent (first .labels) b) (joined-parent tree K b (c .0) (c .1) free f)) into)))
+                    (subst (λ w. joined (up first) K w t ≡ true) (sym starts)
+                    (joined-trans tree K (parent (first .labels) b) b t (joined-sym tree K b (parent (first .labels) b) (joined-parent tree K b (c .0) (c .1) free f)) into)))
               ]
           | inr nt ↦
               let apart : joined (up first) K a b ≡ false =
-                    elim (cases-bool (joined (up first) K a b)) [
-                      | inl j ↦ absurd (both-ways (joined (up first) K a t) out (joined-trans tree K a b t j into))
-                      | inr f ↦ f
-                    ] in
+              elim (cases-bool (joined (up first) K a b)) [
+                | inl j ↦ absurd (both-ways (joined (up first) K a t) out (joined-trans tree K a b t j into))
+                | inr f ↦ f
+              ] in
               let p = parted laws sound tree run a b r (link-reaches laws sound tree e h r) apart in
               let free : has b K ≡ false = joined-free tree K b t into in
               let o = parting-offers laws sound tree run e (p .0) (p .1) h nt (p .2) (λ q. both-ways (has b K) free (subst (λ w. has w K ≡ true) (sym q) (moment-has (p .2 .moment)))) in
@@ -124,7 +124,7 @@ first-cut-in k v root t e (f ∷ front) back pass stop =
     ∙ first-cut-in k v root t e front back (λ g h. pass g (has-tail g f front h)) stop
 
 module _ {C : Type 0} {k : Ops C} {v : View C} {root : ℕ} {first second : State C} (laws : Laws k) (sound : Sound-view k v) (tree : Run-laws k (first-job v) root first) (run : Run-laws k (second-job k v root first) root second)
-  (pairs : (w : ℕ) (l : Label C) → second .labels w ≡ Some l → (w ≡ root → ⊥) → (one two : List ℕ) × Pair v root w one two) (t z : ℕ) (last : top-of first (second .order) t ≡ Some z) where
+    (pairs : (w : ℕ) (l : Label C) → second .labels w ≡ Some l → (w ≡ root → ⊥) → (one two : List ℕ) × Pair v root w one two) (t z : ℕ) (last : top-of first (second .order) t ≡ Some z) where
   -- the target is not the root
   target-not-root : root ≡ t → ⊥
   target-not-root e = both-ways (has t (second .order)) (top-free tree (second .order) t z last) (subst (λ y. has y (second .order) ≡ true) e (root-reached run))
@@ -153,26 +153,27 @@ module _ {C : Type 0} {k : Ops C} {v : View C} {root : ℕ} {first second : Stat
       let tl = tree-link-of laws sound tree z reached (top-not-root laws sound tree run t z last) in
       let rest = walk-parts v front (c ∷ back) root t (subst (λ l. Walk v root l t) whole w) in
       let none : occurs f (c ∷ back) ≡ 0 = omega (arith, ap (occurs f) whole, occurs-append f front (c ∷ back), has-occurs f front h) in
-      let s = cut-start f in
-      (s .0 ++ c ∷ back,
+      let s = cut-start f in (
+        s .0 ++ c ∷ back,
         walk-append v (s .0) (c ∷ back) root p t (s .1) (tl .usable, tl .starts, rest .2 .2),
-        occurs-lacks f (s .0 ++ c ∷ back) (omega (arith, occurs-append f (s .0) (c ∷ back), lacks-occurs f (s .0) (s .2))))
+        occurs-lacks f (s .0 ++ c ∷ back) (omega (arith, occurs-append f (s .0) (c ∷ back), lacks-occurs f (s .0) (s .2))),
+      )
 
   -- of the links that all routes use, each route meets the cutting link first
   pub cut-first-shared : First-shared v root t (link-of (first .labels z))
   cut-first-shared = record {
     shared = cut-shared laws sound tree run t z last;
     first = λ f all n es r.
-      let c = link-of (first .labels z) in
-      let p = has-parts c es (root-walk-cut laws sound tree run t z last es (r .leads)) in
-      let back : has f (p .1) ≡ true → Before c f es = λ q. record { front = p .0; back = p .1; whole = p .2; later = has-occurs f (p .1) q } in
-      elim (has-append f (p .0) (c ∷ p .1) (sym (ap (has f) (p .2)) ∙ occurs-has f es (all es r))) [
-        | inl q ↦
-            let d = detour f es (p .0) (p .1) (r .once f) (r .leads) (p .2) q in
-            let s = walk-route v (d .0) root t target-not-root (d .1) in
-            absurd (both-ways (has f (d .0)) (d .2) (s .2 f (occurs-has f (s .0) (all (s .0) (s .1)))))
-        | inr q ↦ elim (has-cases f c (p .1) q) [ inl e ↦ absurd (n e) | inr b ↦ back b ]
-      ];
+        let c = link-of (first .labels z) in
+        let p = has-parts c es (root-walk-cut laws sound tree run t z last es (r .leads)) in
+        let back : has f (p .1) ≡ true → Before c f es = λ q. record { front = p .0; back = p .1; whole = p .2; later = has-occurs f (p .1) q } in
+        elim (has-append f (p .0) (c ∷ p .1) (sym (ap (has f) (p .2)) ∙ occurs-has f es (all es r))) [
+          | inl q ↦
+              let d = detour f es (p .0) (p .1) (r .once f) (r .leads) (p .2) q in
+              let s = walk-route v (d .0) root t target-not-root (d .1) in
+              absurd (both-ways (has f (d .0)) (d .2) (s .2 f (occurs-has f (s .0) (all (s .0) (s .1)))))
+          | inr q ↦ elim (has-cases f c (p .1) q) [ inl e ↦ absurd (n e) | inr b ↦ back b ]
+        ];
   }
 
   module _ (outs : (e : ℕ) → Run-laws k (first-job (without e v)) root (first-run k (without e v) root)) where
@@ -206,14 +207,15 @@ module _ {C : Type 0} {k : Ops C} {v : View C} {root : ℕ} {first second : Stat
         let p = has-parts c es (tree-route-has tree z t (top-above tree (second .order) t z last .0) (top-not-root laws sound tree run t z last)) in
         ap (first-cut k v root t) (p .2)
         ∙ first-cut-in k v root t c (p .0) (p .1)
-          (λ f h. let d = detour f es (p .0) (p .1) (tree-route-once laws sound tree t reached f) w (p .2) h in avoided-labelled f (d .0) (d .1) (d .2))
-          cut-not-labelled
+        (λ f h. let d = detour f es (p .0) (p .1) (tree-route-once laws sound tree t reached f) w (p .2) h in avoided-labelled f (d .0) (d .1) (d .2))
+        cut-not-labelled
 
     -- what the search finds is right
     pub says-cut : Says k v root t (one-link (first-cut k v root t (tree-route first (up first t))))
-    says-cut =
-        (reached-route laws sound tree t (top-reached tree (second .order) t z last) (λ e. target-not-root (sym e)),
-          subst (λ e. First-shared v root t e) (sym first-cut-is) cut-first-shared)
+    says-cut = (
+      reached-route laws sound tree t (top-reached tree (second .order) t z last) (λ e. target-not-root (sym e)),
+      subst (λ e. First-shared v root t e) (sym first-cut-is) cut-first-shared,
+    )
 
 module _ {C : Type 0} {k : Ops C} {v : View C} {root : ℕ} {first second : State C} (laws : Laws k) (sound : Sound-view k v) (tree : Run-laws k (first-job v) root first) (run : Run-laws k (second-job k v root first) root second) where
   -- a reached site without a second label has a last piece with a top

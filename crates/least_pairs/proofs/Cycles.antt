@@ -83,16 +83,16 @@ pub acyclic-join : {C : Type 0} (v : View C) (K : ℕ → Bool) (new old F : Lis
     Acyclic v new → Acyclic v old → Acyclic v F
 acyclic-join v K new old F parts within out no-new no-old w e es walk part =
     let keeps : (x : ℕ) → 1 ≤ occurs x F → K (v .start x) ≡ true → K (v .end x) ≡ true =
-          λ x i h. elim (parts x i) [ inl n ↦ within x n .1 | inr o ↦ absurd (both-ways (K (v .start x)) (out x o) h) ] in
+    λ x i h. elim (parts x i) [ inl n ↦ within x n .1 | inr o ↦ absurd (both-ways (K (v .start x)) (out x o) h) ] in
     elim (cases-bool (K w)) [
       | inl t ↦ no-new w e es walk (λ x i. elim (parts x (part x i)) [
-          | inl n ↦ n
-          | inr o ↦ absurd (both-ways (K (v .start x)) (out x o) (all-in v K F keeps w w (e ∷ es) walk part t x i))
-        ])
+        | inl n ↦ n
+        | inr o ↦ absurd (both-ways (K (v .start x)) (out x o) (all-in v K F keeps w w (e ∷ es) walk part t x i))
+      ])
       | inr f ↦ no-old w e es walk (λ x i. elim (parts x (part x i)) [
-          | inl n ↦ absurd (both-ways (K (v .start x)) (all-out v K F keeps w w (e ∷ es) walk part f x i .0) (within x n .0))
-          | inr o ↦ o
-        ])
+        | inl n ↦ absurd (both-ways (K (v .start x)) (all-out v K F keeps w w (e ∷ es) walk part f x i .0) (within x n .0))
+        | inr o ↦ o
+      ])
     ]
 
 -- a link that is the tree link of its end, a reached site other than the root
@@ -138,11 +138,14 @@ visit v a b w (e ∷ es) walk h =
       | inl s ↦ ([], sym s, λ x i. absurd (omega (arith, i)))
       | inr d ↦
           let none : hit w a ≡ 0 = ap (λ z. cond z 1 0) (ne-eqb w a d) in
-          let p = visit v (v .end e) b w es (walk .2) (omega arith) in
-          (e ∷ p .0, (walk .0, walk .1, p .1), λ x i. elim (first-or x e (p .0) i) [
-            | inl s ↦ subst (λ z. 1 ≤ occurs z (e ∷ es)) (sym s) (omega (arith, hit-self e))
-            | inr o ↦ omega (arith, p .2 x o)
-          ])
+          let p = visit v (v .end e) b w es (walk .2) (omega arith) in (
+            e ∷ p .0,
+            (walk .0, walk .1, p .1),
+            λ x i. elim (first-or x e (p .0) i) [
+              | inl s ↦ subst (λ z. 1 ≤ occurs z (e ∷ es)) (sym s) (omega (arith, hit-self e))
+              | inr o ↦ omega (arith, p .2 x o)
+            ],
+          )
     ]
 
 -- a number hits another at most once
@@ -156,15 +159,15 @@ simple-walk v F none a b (e ∷ es) walk part w =
     let rest : occurs w (v .end e ∷ ends v es) ≤ 1 = simple-walk v F none (v .end e) b es (walk .2) (part-tail e es F part) w in
     elim (cases-eq w a) [
       | inl s ↦ elim (cases-bool (has w (v .end e ∷ ends v es))) [
-          | inl t ↦
-              let p = visit v (v .end e) b w es (walk .2) (has-occurs w (v .end e ∷ ends v es) t) in
-              let back : Walk v a (e ∷ p .0) a = (walk .0, walk .1, subst (λ z. Walk v (v .end e) (p .0) z) s (p .1)) in
-              absurd (none a e (p .0) back (λ x i. elim (first-or x e (p .0) i) [
-                | inl q ↦ subst (λ z. 1 ≤ occurs z F) (sym q) (part-head e es F part)
-                | inr o ↦ part-tail e es F part x (p .2 x o)
-              ]))
-          | inr f ↦ omega (arith, hit-most w a, lacks-occurs w (v .end e ∷ ends v es) f)
-        ]
+        | inl t ↦
+            let p = visit v (v .end e) b w es (walk .2) (has-occurs w (v .end e ∷ ends v es) t) in
+            let back : Walk v a (e ∷ p .0) a = (walk .0, walk .1, subst (λ z. Walk v (v .end e) (p .0) z) s (p .1)) in
+            absurd (none a e (p .0) back (λ x i. elim (first-or x e (p .0) i) [
+              | inl q ↦ subst (λ z. 1 ≤ occurs z F) (sym q) (part-head e es F part)
+              | inr o ↦ part-tail e es F part x (p .2 x o)
+            ]))
+        | inr f ↦ omega (arith, hit-most w a, lacks-occurs w (v .end e ∷ ends v es) f)
+      ]
       | inr d ↦ let zero : hit w a ≡ 0 = ap (λ z. cond z 1 0) (ne-eqb w a d) in omega arith
     ]
 

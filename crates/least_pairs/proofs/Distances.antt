@@ -52,7 +52,7 @@ module _ {C : Type 0} {k : Ops C} {v : View C} {root : ℕ} {first : State C} (l
   reduced-least e h r =
       let o = link-offers e h r in
       let le : Le k (cost-of k (first .labels (v .end e))) (k .plus (cost-of k (first .labels (v .start e))) (v .cost e)) =
-            subst (λ c. Le k c (k .plus (cost-of k (first .labels (v .start e))) (v .cost e))) (sym (ap (cost-of k) (o .1))) (o .2) in
+      subst (λ c. Le k c (k .plus (cost-of k (first .labels (v .start e))) (v .cost e))) (sym (ap (cost-of k) (o .1))) (o .2) in
       by-le laws (cost-of k (first .labels (v .end e)) ∷ cost-of k (first .labels (v .start e)) ∷ v .cost e ∷ []) le (search quoting depth 12) tt
 
   -- what the tree link of a reached site other than the root is: usable, from its parent, to it, at the difference of their distances
@@ -75,9 +75,9 @@ module _ {C : Type 0} {k : Ops C} {v : View C} {root : ℕ} {first : State C} (l
         starts = ap (v .start) is ∙ eqb-true (v .start (m .0 .link)) (m .0 .turn) (both .1) ∙ sym turn;
         ends = ap (v .end) is ∙ r .3;
         adds =
-          ap (cost-of k) (m .1) ∙ r .5
-          ∙ ap (λ c. k .plus c (v .cost (m .0 .link))) (sym (ap (cost-of k) (ap (first .labels) turn ∙ r .4)))
-          ∙ ap (λ e. k .plus (cost-of k (first .labels (parent (first .labels) w))) (v .cost e)) (sym is);
+            ap (cost-of k) (m .1) ∙ r .5
+            ∙ ap (λ c. k .plus c (v .cost (m .0 .link))) (sym (ap (cost-of k) (ap (first .labels) turn ∙ r .4)))
+            ∙ ap (λ e. k .plus (cost-of k (first .labels (parent (first .labels) w))) (v .cost e)) (sym is);
       }
 
   -- the reduced cost of a tree link is zero
@@ -98,8 +98,8 @@ module _ {C : Type 0} {k : Ops C} {v : View C} {root : ℕ} {first : State C} (l
       let m = run .has-label w h in
       subst (λ u. (came-over (first .labels u) e && not (eqb u root)) ≡ true) (sym (tree-link-of w h n .ends))
       (and-from (came-over (first .labels w) e) (not (eqb w root))
-        (ap (λ o. came-over o e) (m .1) ∙ ap (λ x. eqb x e) (sym (ap link-of (m .1))) ∙ eq-eqb e e refl)
-        (not-from-false (eqb w root) (ne-eqb w root n)))
+      (ap (λ o. came-over o e) (m .1) ∙ ap (λ x. eqb x e) (sym (ap link-of (m .1))) ∙ eq-eqb e e refl)
+      (not-from-false (eqb w root) (ne-eqb w root n)))
 
   -- a link that is told to be a tree link is that of its end, which is reached and not the root
   pub tree-link-true : (e : ℕ) → tree-link v first root e ≡ true → (has (v .end e) (first .order) ≡ true) × (v .end e ≡ root → ⊥) × (e ≡ link-of (first .labels (v .end e)))

@@ -110,13 +110,12 @@ pub tree-link-is : {C : Type 0} {k : Ops C} (laws : Laws k) (v : View C) (sound 
 tree-link-is laws v sound {root} {first} fl e is reached other = subst (λ x. tree-link v first root x ≡ true) (sym is) (tree-link-told laws sound fl (v .end e) reached other)
 
 module _ {C : Type 0} {k : Ops C} (laws : Laws k) (v : View C) (sound : Sound-view k v) {root : ℕ} {first second : State C} (fl : Run-laws k (first-job v) root first)
-  (ys : List ℕ) (t : ℕ) (m : Label C) (labelled : second .labels t ≡ Some m) (other : t ≡ root → ⊥) (new : has t ys ≡ false)
-  (feed : Feeds k v root first second ys (m .turn))
-  (usable : v .usable (m .link) ≡ true) (no-tree : tree-link v first root (m .link) ≡ false) (lands : v .end (m .link) ≡ t)
-  (hu : top-of first (feed .before) (v .start (m .link)) ≡ Some (feed .z)) (ht : top-of first (feed .before) t ≡ Some (feed .z))
-  (parted : (v .start (m .link) ≡ m .turn) ⊎ (joined (up first) (m .turn ∷ feed .before) (v .start (m .link)) t ≡ false))
-  (cost : m .cost ≡ k .plus (feed .label .cost) (reduced k v first (m .link))) where
-
+    (ys : List ℕ) (t : ℕ) (m : Label C) (labelled : second .labels t ≡ Some m) (other : t ≡ root → ⊥) (new : has t ys ≡ false)
+    (feed : Feeds k v root first second ys (m .turn))
+    (usable : v .usable (m .link) ≡ true) (no-tree : tree-link v first root (m .link) ≡ false) (lands : v .end (m .link) ≡ t)
+    (hu : top-of first (feed .before) (v .start (m .link)) ≡ Some (feed .z)) (ht : top-of first (feed .before) t ≡ Some (feed .z))
+    (parted : (v .start (m .link) ≡ m .turn) ⊎ (joined (up first) (m .turn ∷ feed .before) (v .start (m .link)) t ≡ false))
+    (cost : m .cost ≡ k .plus (feed .label .cost) (reduced k v first (m .link))) where
   -- the top of the new piece
   low-of : (low : ℕ) × (top-of first ys t ≡ Some low)
   low-of = top-some fl ys t (top-reached fl (feed .before) t (feed .z) ht) new
@@ -226,27 +225,27 @@ module _ {C : Type 0} {k : Ops C} (laws : Laws k) (v : View C) (sound : Sound-vi
   entry-new : (e : ℕ) → 1 ≤ hit e (m .link) → 1 ≤ occurs e one + (occurs e two + occurs e (feed .links)) → ⊥
   entry-new e h g =
       let same : e ≡ m .link = elim (cases-eq e (m .link)) [
-            | inl s ↦ s
-            | inr d ↦ let none : hit e (m .link) ≡ 0 = ap (λ b. cond b 1 0) (ne-eqb e (m .link) d) in absurd (omega arith)
-          ] in
+        | inl s ↦ s
+        | inr d ↦ let none : hit e (m .link) ≡ 0 = ap (λ b. cond b 1 0) (ne-eqb e (m .link) d) in absurd (omega arith)
+      ] in
       elim (either (occurs e one) (occurs e two + occurs e (feed .links)) g) [
         | inl i ↦ entry-no-tree (leads-one (m .link) (subst (λ y. 1 ≤ occurs y one) same i))
         | inr o ↦ elim (either (occurs e two) (occurs e (feed .links)) o) [
-            | inl i ↦ entry-no-tree (leads-two (m .link) (subst (λ y. 1 ≤ occurs y two) same i))
-            | inr i ↦ entry-old (subst (λ y. 1 ≤ occurs y (feed .links)) same i)
-          ]
+          | inl i ↦ entry-no-tree (leads-two (m .link) (subst (λ y. 1 ≤ occurs y two) same i))
+          | inr i ↦ entry-old (subst (λ y. 1 ≤ occurs y (feed .links)) same i)
+        ]
       ]
 
   -- no link stands twice
   all-once : (e : ℕ) → occurs e all ≤ 1
   all-once e =
       let last : occurs e two + occurs e (feed .links) ≤ 1 =
-            exclusive (occurs e two) (occurs e (feed .links)) (climb-once laws v sound fl e (v .start (m .link)) (two-ways .other) (two-ways .other-sites) (two-ways .other-climb) other-reached) (feed .once e) (two-old e) in
+      exclusive (occurs e two) (occurs e (feed .links)) (climb-once laws v sound fl e (v .start (m .link)) (two-ways .other) (two-ways .other-sites) (two-ways .other-climb) other-reached) (feed .once e) (two-old e) in
       let rest : occurs e one + (occurs e two + occurs e (feed .links)) ≤ 1 =
-            exclusive (occurs e one) (occurs e two + occurs e (feed .links)) (climb-once laws v sound fl e (low-of .0) (two-ways .from) (two-ways .sites) (two-ways .climb) from-reached) last
-            (λ h g. elim (either (occurs e two) (occurs e (feed .links)) g) [ inl i ↦ one-two e h i | inr i ↦ one-old e h i ]) in
+      exclusive (occurs e one) (occurs e two + occurs e (feed .links)) (climb-once laws v sound fl e (low-of .0) (two-ways .from) (two-ways .sites) (two-ways .climb) from-reached) last
+      (λ h g. elim (either (occurs e two) (occurs e (feed .links)) g) [ inl i ↦ one-two e h i | inr i ↦ one-old e h i ]) in
       let whole : hit e (m .link) + (occurs e one + (occurs e two + occurs e (feed .links))) ≤ 1 =
-            exclusive (hit e (m .link)) (occurs e one + (occurs e two + occurs e (feed .links))) (hit-most e (m .link)) rest (entry-new e) in
+      exclusive (hit e (m .link)) (occurs e one + (occurs e two + occurs e (feed .links))) (hit-most e (m .link)) rest (entry-new e) in
       omega (arith, parts e)
 
   -- what holds of the entry link, of the links of the climbs and of those before holds of all
@@ -290,32 +289,38 @@ module _ {C : Type 0} {k : Ops C} (laws : Laws k) (v : View C) (sound : Sound-vi
     reached = p .reached;
     other = p .other;
     lone = λ g.
-      let there : top-of first apart-at (v .end e) ≡ Some (low-of .0) = subst (λ Y. top-of first Y (v .end e) ≡ Some (low-of .0)) (feed .moment .whole) g in
-      let x-is : v .end e ≡ feed .z = p .lone (later-top fl (m .turn) (feed .before) (feed .z) (feed .is-top) (v .start (m .link)) t hu ht parted (feed .moment .later) (low-of .0) low-there (v .end e) there) in
-      let under : has (feed .z) (up first (low-of .0)) ≡ true = low-under fl (m .turn) (feed .before) (feed .z) (feed .is-top) (v .start (m .link)) t hu ht parted (feed .moment .later) (low-of .0) low-there in
-      up-antisym fl (v .end e) (low-of .0) (subst (λ w. has w (up first (low-of .0)) ≡ true) (sym x-is) under) (top-above fl ys (v .end e) (low-of .0) g .0);
+        let there : top-of first apart-at (v .end e) ≡ Some (low-of .0) = subst (λ Y. top-of first Y (v .end e) ≡ Some (low-of .0)) (feed .moment .whole) g in
+        let x-is : v .end e ≡ feed .z = p .lone (later-top fl (m .turn) (feed .before) (feed .z) (feed .is-top) (v .start (m .link)) t hu ht parted (feed .moment .later) (low-of .0) low-there (v .end e) there) in
+        let under : has (feed .z) (up first (low-of .0)) ≡ true = low-under fl (m .turn) (feed .before) (feed .z) (feed .is-top) (v .start (m .link)) t hu ht parted (feed .moment .later) (low-of .0) low-there in
+        up-antisym fl (v .end e) (low-of .0) (subst (λ w. has w (up first (low-of .0)) ≡ true) (sym x-is) under) (top-above fl ys (v .end e) (low-of .0) g .0);
   }
 
   all-balance : (x : ℕ) → hit x t + (hit x (low-of .0) + occurs x (map (v .start) all)) ≡ hit x root + (hit x root + occurs x (map (v .end) all))
   all-balance x =
       let lands-hit : hit x (v .end (m .link)) ≡ hit x t = ap (hit x) lands in
-      omega (arith, feed .balance x, two-ways .ends x,
+      omega (
+        arith,
+        feed .balance x,
+        two-ways .ends x,
         climb-balance laws v sound fl x (low-of .0) (two-ways .from) (two-ways .sites) (two-ways .climb) from-reached,
         climb-balance laws v sound fl x (v .start (m .link)) (two-ways .other) (two-ways .other-sites) (two-ways .other-climb) other-reached,
-        occurs-map-append (v .start) x one (two ++ feed .links), occurs-map-append (v .start) x two (feed .links),
-        occurs-map-append (v .end) x one (two ++ feed .links), occurs-map-append (v .end) x two (feed .links))
+        occurs-map-append (v .start) x one (two ++ feed .links),
+        occurs-map-append (v .start) x two (feed .links),
+        occurs-map-append (v .end) x one (two ++ feed .links),
+        occurs-map-append (v .end) x two (feed .links),
+      )
 
   all-costs : total k (reduced k v first) all ≡ m .cost
   all-costs =
       let r = reduced k v first in
       ap (k .plus (r (m .link)))
-        (total-append laws r one (two ++ feed .links)
-        ∙ ap (λ y. k .plus y (total k r (two ++ feed .links))) (climb-free laws v sound fl (low-of .0) (two-ways .from) (two-ways .sites) (two-ways .climb) from-reached)
-        ∙ laws .zero-plus (total k r (two ++ feed .links))
-        ∙ total-append laws r two (feed .links)
-        ∙ ap (λ y. k .plus y (total k r (feed .links))) (climb-free laws v sound fl (v .start (m .link)) (two-ways .other) (two-ways .other-sites) (two-ways .other-climb) other-reached)
-        ∙ laws .zero-plus (total k r (feed .links))
-        ∙ feed .costs)
+      (total-append laws r one (two ++ feed .links)
+      ∙ ap (λ y. k .plus y (total k r (two ++ feed .links))) (climb-free laws v sound fl (low-of .0) (two-ways .from) (two-ways .sites) (two-ways .climb) from-reached)
+      ∙ laws .zero-plus (total k r (two ++ feed .links))
+      ∙ total-append laws r two (feed .links)
+      ∙ ap (λ y. k .plus y (total k r (feed .links))) (climb-free laws v sound fl (v .start (m .link)) (two-ways .other) (two-ways .other-sites) (two-ways .other-climb) other-reached)
+      ∙ laws .zero-plus (total k r (feed .links))
+      ∙ feed .costs)
       ∙ laws .comm (r (m .link)) (feed .label .cost)
       ∙ sym cost
 
@@ -381,13 +386,13 @@ module _ {C : Type 0} {k : Ops C} (laws : Laws k) (v : View C) (sound : Sound-vi
   new-in-piece e h =
       in-new ((in-piece (v .start e) ≡ true) × (in-piece (v .end e) ≡ true)) e h
       (λ s. subst (λ y. (in-piece (v .start y) ≡ true) × (in-piece (v .end y) ≡ true)) (sym s)
-        (top-in-piece (v .start (m .link)) hu, top-in-piece (v .end (m .link)) (subst (λ w. top-of first (feed .before) w ≡ Some (feed .z)) (sym lands) ht)))
+      (top-in-piece (v .start (m .link)) hu, top-in-piece (v .end (m .link)) (subst (λ w. top-of first (feed .before) w ≡ Some (feed .z)) (sym lands) ht)))
       (λ i. let p = in-one e i in
-        tree-in-piece e (on-tree (leads-one e i)) (two-ways .within (v .end e) (p .1))
-        (not-top (low-of .0) (two-ways .from) (v .end e) (two-ways .sites) (two-ways .climb) from-reached (two-ways .from-under) (p .1)))
+      tree-in-piece e (on-tree (leads-one e i)) (two-ways .within (v .end e) (p .1))
+      (not-top (low-of .0) (two-ways .from) (v .end e) (two-ways .sites) (two-ways .climb) from-reached (two-ways .from-under) (p .1)))
       (λ i. let p = in-two e i in
-        tree-in-piece e (on-tree (leads-two e i)) (two-ways .other-within (v .end e) (p .1))
-        (not-top (v .start (m .link)) (two-ways .other) (v .end e) (two-ways .other-sites) (two-ways .other-climb) other-reached (two-ways .other-under) (p .1)))
+      tree-in-piece e (on-tree (leads-two e i)) (two-ways .other-within (v .end e) (p .1))
+      (not-top (v .start (m .link)) (two-ways .other) (v .end e) (two-ways .other-sites) (two-ways .other-climb) other-reached (two-ways .other-under) (p .1)))
 
   old-out : (e : ℕ) → 1 ≤ occurs e (feed .links) → in-piece (v .start e) ≡ false
   old-out e i =
@@ -406,18 +411,18 @@ module _ {C : Type 0} {k : Ops C} (laws : Laws k) (v : View C) (sound : Sound-vi
   new-acyclic w e es walk part =
       let first-there : 1 ≤ occurs e new-links = part e (omega (arith, hit-self e)) in
       let away : eqb w t ≡ false = elim (cases-bool (eqb w t)) [
-            | inl s ↦ absurd (none-starts e first-there (subst (λ y. eqb y t ≡ true) (sym (walk .1)) s))
-            | inr f ↦ f
-          ] in
+        | inl s ↦ absurd (none-starts e first-there (subst (λ y. eqb y t ≡ true) (sym (walk .1)) s))
+        | inr f ↦ f
+      ] in
       tree-acyclic laws v sound fl (one ++ two)
       (λ x i. elim (either (occurs x one) (occurs x two) (omega (arith, i, occurs-append x one two))) [ inl o ↦ on-tree (leads-one x o) | inr o ↦ on-tree (leads-two x o) ])
       w e es walk
       (λ x i.
-        let ends = all-out v (λ y. eqb y t) new-links (λ y j h. absurd (none-starts y j h)) w w (e ∷ es) walk part away x i .1 in
-        in-new (1 ≤ occurs x (one ++ two)) x (part x i)
-        (λ s. absurd (both-ways (eqb (v .end x) t) ends (eq-eqb (v .end x) t (ap (v .end) s ∙ lands))))
-        (λ o. omega (arith, o, occurs-append x one two))
-        (λ o. omega (arith, o, occurs-append x one two)))
+      let ends = all-out v (λ y. eqb y t) new-links (λ y j h. absurd (none-starts y j h)) w w (e ∷ es) walk part away x i .1 in
+      in-new (1 ≤ occurs x (one ++ two)) x (part x i)
+      (λ s. absurd (both-ways (eqb (v .end x) t) ends (eq-eqb (v .end x) t (ap (v .end) s ∙ lands))))
+      (λ o. omega (arith, o, occurs-append x one two))
+      (λ o. omega (arith, o, occurs-append x one two)))
 
   all-acyclic : Acyclic v all
   all-acyclic = acyclic-join v in-piece new-links (feed .links) all new-or-old new-in-piece old-out new-acyclic (feed .acyclic)
@@ -435,27 +440,27 @@ module _ {C : Type 0} {k : Ops C} (laws : Laws k) (v : View C) (sound : Sound-vi
     balance = all-balance;
     once = all-once;
     kinds = λ e h.
-      in-parts (Enters v root first second (marks (second .labels) root (t ∷ ys) t) e ⊎ Leads v root first ys (low-of .0) e) e h
-      (λ s. inl (subst (λ y. Enters v root first second (marks (second .labels) root (t ∷ ys) t) y) (sym s) enters-entry))
-      (λ i. inr (leads-one e i))
-      (λ i. inr (leads-two e i))
-      (λ i. elim (feed .kinds e i) [ inl p ↦ inl (enters-old e p) | inr p ↦ inr (leads-old e p) ]);
+        in-parts (Enters v root first second (marks (second .labels) root (t ∷ ys) t) e ⊎ Leads v root first ys (low-of .0) e) e h
+        (λ s. inl (subst (λ y. Enters v root first second (marks (second .labels) root (t ∷ ys) t) y) (sym s) enters-entry))
+        (λ i. inr (leads-one e i))
+        (λ i. inr (leads-two e i))
+        (λ i. elim (feed .kinds e i) [ inl p ↦ inl (enters-old e p) | inr p ↦ inr (leads-old e p) ]);
     marked = λ x h.
-      elim (has-cases x t (marks (second .labels) root ys (m .turn)) (sym (ap (has x) marks-are) ∙ h)) [
-        | inl s ↦
-            let link-is : link-of (second .labels x) ≡ m .link = ap (λ w. link-of (second .labels w)) s ∙ entry-is in
-            let there : 1 ≤ occurs (m .link) all = omega (arith, hit-self (m .link)) in
-            (subst (λ y. 1 ≤ occurs y all) (sym link-is) there, ap (v .end) link-is ∙ lands ∙ sym s, subst (λ y. has y (t ∷ ys) ≡ true) (sym s) (has-head t ys))
-        | inr i ↦
-            let p = feed .marked x i in
-            (omega (arith, p .0, parts (link-of (second .labels x))), p .1, has-tail x t ys (p .2))
-      ];
+        elim (has-cases x t (marks (second .labels) root ys (m .turn)) (sym (ap (has x) marks-are) ∙ h)) [
+          | inl s ↦
+              let link-is : link-of (second .labels x) ≡ m .link = ap (λ w. link-of (second .labels w)) s ∙ entry-is in
+              let there : 1 ≤ occurs (m .link) all = omega (arith, hit-self (m .link)) in
+              (subst (λ y. 1 ≤ occurs y all) (sym link-is) there, ap (v .end) link-is ∙ lands ∙ sym s, subst (λ y. has y (t ∷ ys) ≡ true) (sym s) (has-head t ys))
+          | inr i ↦
+              let p = feed .marked x i in
+              (omega (arith, p .0, parts (link-of (second .labels x))), p .1, has-tail x t ys (p .2))
+        ];
     usable = λ e h.
-      in-parts (v .usable e ≡ true) e h
-      (λ s. subst (λ y. v .usable y ≡ true) (sym s) usable)
-      (λ i. in-one e i .2)
-      (λ i. in-two e i .2)
-      (feed .usable e);
+        in-parts (v .usable e ≡ true) e h
+        (λ s. subst (λ y. v .usable y ≡ true) (sym s) usable)
+        (λ i. in-one e i .2)
+        (λ i. in-two e i .2)
+        (feed .usable e);
     costs = all-costs;
     leaves = all-leaves;
     acyclic = all-acyclic;

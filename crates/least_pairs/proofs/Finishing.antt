@@ -38,20 +38,20 @@ module _ {C : Type 0} {k : Ops C} (laws : Laws k) (j : Job C) (root : ℕ) (soun
   -- what holds of every run holds at the beginning
   beginning : Running k j root (begun k root)
   beginning = record {
-      root-label = ap (λ b. cond b (Some (record { cost = k .zero; link = 0; turn = root })) None) (eq-eqb root root refl);
-      began = inl (refl, λ w l is. only-root w l is .0);
-      once = λ w. omega arith;
-      labelled = λ w l is. subst (λ x. x < j .sites) (sym (only-root w l is .0)) (sound .begins);
-      least-zero = λ w l is. le-same laws (sym (ap (λ x. x .cost) (only-root w l is .1)));
-      has-label = λ w h. absurd (both-ways false refl h);
-      frontier = λ x w h. absurd (both-ways false refl h);
-      rising = λ y S m. no-moment m;
-      offers = λ y S e h. no-moment (h .moment);
-      reason = λ w m other is. absurd (other (only-root w m is .0));
-      turn-first = λ w m other is. absurd (other (only-root w m is .0));
-      earliest = λ w m other is. absurd (other (only-root w m is .0));
-      chosen = λ y S m moment. no-moment moment;
-    }
+    root-label = ap (λ b. cond b (Some (record { cost = k .zero; link = 0; turn = root })) None) (eq-eqb root root refl);
+    began = inl (refl, λ w l is. only-root w l is .0);
+    once = λ w. omega arith;
+    labelled = λ w l is. subst (λ x. x < j .sites) (sym (only-root w l is .0)) (sound .begins);
+    least-zero = λ w l is. le-same laws (sym (ap (λ x. x .cost) (only-root w l is .1)));
+    has-label = λ w h. absurd (both-ways false refl h);
+    frontier = λ x w h. absurd (both-ways false refl h);
+    rising = λ y S m. no-moment m;
+    offers = λ y S e h. no-moment (h .moment);
+    reason = λ w m other is. absurd (other (only-root w m is .0));
+    turn-first = λ w m other is. absurd (other (only-root w m is .0));
+    earliest = λ w m other is. absurd (other (only-root w m is .0));
+    chosen = λ y S m moment. no-moment moment;
+  }
 
   -- what holds of a run holds after a turn
   after-turn : (s : State C) (o : Option (ℕ × C)) → Choice k s (j .sites) o → Running k j root s → Running k j root (settled k j s o)
@@ -84,7 +84,7 @@ module _ {C : Type 0} {k : Ops C} (laws : Laws k) (j : Job C) (root : ℕ) (soun
   all-settled s r full (Some b) h =
       let more = one-settled laws j root sound s r (b .0) (b .1) h in
       let most = few (j .sites) (b .0 ∷ s .order) (more .once) (λ w some.
-          let l = more .has-label w (occurs-has w (b .0 ∷ s .order) some) in more .labelled w (l .0) (l .1)) in
+      let l = more .has-label w (occurs-has w (b .0 ∷ s .order) some) in more .labelled w (l .0) (l .1)) in
       absurd (omega arith)
 
   -- at the end no site is left
@@ -99,14 +99,14 @@ module _ {C : Type 0} {k : Ops C} (laws : Laws k) (j : Job C) (root : ℕ) (soun
   finished : (s : State C) → Running k j root s → Spent s (j .sites) → Run-laws k j root s
   finished s r spent =
       let settled-all : (w : ℕ) (l : Label C) → s .labels w ≡ Some l → has w (s .order) ≡ true = λ w l is.
-          elim (cases-bool (has w (s .order))) [ inl h ↦ h | inr h ↦ absurd (spent w (r .labelled w l is) h l is) ] in
+      elim (cases-bool (has w (s .order))) [ inl h ↦ h | inr h ↦ absurd (spent w (r .labelled w l is) h l is) ] in
       record {
         root-label = r .root-label;
         root-first =
-          elim (r .began) [
-            | inl b ↦ absurd (both-ways false refl (subst (λ o. has root o ≡ true) (b .0) (settled-all root (record { cost = k .zero; link = 0; turn = root }) (r .root-label))))
-            | inr m ↦ m
-          ];
+            elim (r .began) [
+              | inl b ↦ absurd (both-ways false refl (subst (λ o. has root o ≡ true) (b .0) (settled-all root (record { cost = k .zero; link = 0; turn = root }) (r .root-label))))
+              | inr m ↦ m
+            ];
         once = r .once;
         sites = λ w h. let l = r .has-label w h in r .labelled w (l .0) (l .1);
         has-label = r .has-label;

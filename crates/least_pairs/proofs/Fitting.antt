@@ -56,8 +56,8 @@ module _ {C : Type 0} {k : Ops C} (laws : Laws k) {v : View C} (sight : Sound-vi
   cost-size-of : (w : ℕ) → k .size (cost-of k (first .labels w)) ≤ 255000000
   cost-size-of w =
       (elim (first .labels w) as (λ o. first .labels w ≡ o → k .size (cost-of k o) ≤ 255000000) [
-        None ↦ λ e. omega (arith, laws .size-zero)
-      | Some l ↦ λ e. distance-size w l e
+        | None ↦ λ e. omega (arith, laws .size-zero)
+        | Some l ↦ λ e. distance-size w l e
       ]) refl
 
   -- a reduced cost is a cost and two distances
@@ -94,20 +94,20 @@ module _ {C : Type 0} {k : Ops C} (laws : Laws k) {v : View C} (sight : Sound-vi
       let lacks : has x (y ∷ S) ≡ false = lacks-more x y S (a .other) (a .free) in
       let part : (w : ℕ) → occurs w (y ∷ S) ≤ occurs w (second .order) = λ w. omega (arith, ap (occurs w) (m .whole), occurs-append w (m .later) (y ∷ S)) in
       let once : (w : ℕ) → occurs w (x ∷ y ∷ S) ≤ 1 = λ w.
-          (elim (eqb w x) as (λ b. eqb w x ≡ b → occurs w (x ∷ y ∷ S) ≤ 1) [
-            true ↦ λ t. let same : w ≡ x = eqb-true w x t in
-                        let none : occurs w (y ∷ S) ≡ 0 = ap (λ z. occurs z (y ∷ S)) same ∙ lacks-occurs x (y ∷ S) lacks in
-                        let one : hit w x ≡ 1 = ap (λ b. cond b 1 0) t in
-                        omega arith
-          | false ↦ λ t. let zero-hit : hit w x ≡ 0 = ap (λ b. cond b 1 0) t in omega (arith, part w, sl .once w)
-          ]) refl in
+      (elim (eqb w x) as (λ b. eqb w x ≡ b → occurs w (x ∷ y ∷ S) ≤ 1) [
+        | true ↦ λ t. let same : w ≡ x = eqb-true w x t in
+            let none : occurs w (y ∷ S) ≡ 0 = ap (λ z. occurs z (y ∷ S)) same ∙ lacks-occurs x (y ∷ S) lacks in
+            let one : hit w x ≡ 1 = ap (λ b. cond b 1 0) t in
+            omega arith
+        | false ↦ λ t. let zero-hit : hit w x ≡ 0 = ap (λ b. cond b 1 0) t in omega (arith, part w, sl .once w)
+      ]) refl in
       let inside : (w : ℕ) → 1 ≤ occurs w (x ∷ y ∷ S) → w < v .sites = λ w h.
-          (elim (eqb w x) as (λ b. eqb w x ≡ b → w < v .sites) [
-            true ↦ λ t. subst (λ z. z < v .sites) (sym (eqb-true w x t)) (sight .end e (a .usable))
-          | false ↦ λ t. let zero-hit : hit w x ≡ 0 = ap (λ b. cond b 1 0) t in
-                         let there : 1 ≤ occurs w (second .order) = omega (arith, part w) in
-                         sl .sites w (occurs-has w (second .order) there)
-          ]) refl in
+      (elim (eqb w x) as (λ b. eqb w x ≡ b → w < v .sites) [
+        | true ↦ λ t. subst (λ z. z < v .sites) (sym (eqb-true w x t)) (sight .end e (a .usable))
+        | false ↦ λ t. let zero-hit : hit w x ≡ 0 = ap (λ b. cond b 1 0) t in
+            let there : 1 ≤ occurs w (second .order) = omega (arith, part w) in
+            sl .sites w (occurs-has w (second .order) there)
+      ]) refl in
       omega (arith, few (v .sites) (x ∷ y ∷ S) once inside)
 
   adds-size : (y : ℕ) (S : List ℕ) (e : ℕ) → Considered (second-job k v root first) (second .order) y S e → k .size (reduced k v first e) ≤ 511000000
@@ -132,12 +132,12 @@ module _ {C : Type 0} {k : Ops C} (laws : Laws k) {v : View C} (sight : Sound-vi
     start-side = λ e u. exact laws (v .cost e) (cost-of k (first .labels (v .start e))) 1000000 255000000 (small e u) (cost-size-of (v .start e)) (omega arith);
     end-side = λ e. negated-exact k (cost-of k (first .labels (v .end e))) (omega (arith, cost-size-of (v .end e)));
     reduced-cost = λ e u.
-      let d = cost-of k (first .labels (v .start e)) in
-      let f = cost-of k (first .labels (v .end e)) in
-      exact laws (k .plus (v .cost e) d) (k .negation f) 256000000 255000000 (omega (arith, small e u, cost-size-of (v .start e), laws .size-plus (v .cost e) d)) (omega (arith, laws .size-negation f, cost-size-of (v .end e))) (omega arith);
+        let d = cost-of k (first .labels (v .start e)) in
+        let f = cost-of k (first .labels (v .end e)) in
+        exact laws (k .plus (v .cost e) d) (k .negation f) 256000000 255000000 (omega (arith, small e u, cost-size-of (v .start e), laws .size-plus (v .cost e) d)) (omega (arith, laws .size-negation f, cost-size-of (v .end e))) (omega arith);
     offered-label = λ y S e l c h.
-      let left = some-left y S e c in
-      exact laws (l .cost) (reduced k v first e) 129794000000 511000000 (omega (arith, second-size y S l (c .moment) h)) (adds-size y S e c) (omega arith);
+        let left = some-left y S e c in
+        exact laws (l .cost) (reduced k v first e) 129794000000 511000000 (omega (arith, second-size y S l (c .moment) h)) (adds-size y S e c) (omega arith);
     twice-distance = λ w d h. exact laws (d .cost) (d .cost) 255000000 255000000 (distance-size w d h) (distance-size w d h) (omega arith);
     total = λ w d l h g. exact laws (l .cost) (k .plus (d .cost) (d .cost)) 130305000000 510000000 (label-fits w l g) (omega (arith, distance-size w d h, laws .size-plus (d .cost) (d .cost))) (omega arith);
   }

@@ -20,7 +20,7 @@ use Rattle.least_pairs.proofs.Unique.{laws-determine}
 
 module _ {C : Type 0} {k : Ops C} (laws : Laws k) (v : View C) (sight : Sound-view k v) (root : ℕ) (inside : root < v .sites) where
   -- the first run is a sound job
-  first-sound : Sound-job k (first-job v) root
+  pub first-sound : Sound-job k (first-job v) root
   first-sound = record {
     begins = inside;
     ends = λ y S e lt c. sight .end e (and-parts (v .usable e) (eqb (v .start e) y) c .0);
@@ -33,7 +33,7 @@ module _ {C : Type 0} {k : Ops C} (laws : Laws k) (v : View C) (sight : Sound-vi
   first-laws = run-laws laws first-sound
 
   -- the second run over what a first run left is a sound job
-  second-sound : (first : State C) → Run-laws k (first-job v) root first → Sound-job k (second-job k v root first) root
+  pub second-sound : (first : State C) → Run-laws k (first-job v) root first → Sound-job k (second-job k v root first) root
   second-sound first fl = record {
     begins = inside;
     ends = λ y S e lt c. sight .end e (usable y S e c);

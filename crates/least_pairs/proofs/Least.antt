@@ -15,8 +15,7 @@ use Rattle.least_pairs.proofs.Bound.{pair-least}
 use Rattle.least_pairs.proofs.Balance.{reads-a-pair, reads-at-most, reads-short}
 
 module _ {C : Type 0} {k : Ops C} (laws : Laws k) (v : View C) (sound : Sound-view k v) {root : ℕ} {first second : State C} (fl : Run-laws k (first-job v) root first) (sl : Run-laws k (second-job k v root first) root second)
-  (target : ℕ) (other : target ≡ root → ⊥) (d l : Label C) (reached : first .labels target ≡ Some d) (labelled : second .labels target ≡ Some l) where
-
+    (target : ℕ) (other : target ≡ root → ⊥) (d l : Label C) (reached : first .labels target ≡ Some d) (labelled : second .labels target ≡ Some l) where
   -- the cost of the pair read
   pub reads-cost : k .plus (l .cost) (k .plus (d .cost) (d .cost)) ≡ pair-cost k v (pair-read v first second root target .0) (pair-read v first second root target .1)
   reads-cost =

@@ -110,21 +110,21 @@ few (suc n) xs once below =
       | inl some ↦
           let counted : (w : ℕ) → occurs w xs ≡ hit w n + occurs w (without n xs) = λ w. occurs-without w n xs some in
           let fewer = few n (without n xs) (λ w. omega (arith, once w, counted w)) (λ w h.
-              elim (cases-lt w n) [
-                | inl l ↦ l
-                | inr g ↦
-                    let same : w ≡ n = omega (arith, below w (omega (arith, counted w))) in
-                    let hit-one : hit w n ≡ 1 = ap (λ z. hit w z) (sym same) ∙ hit-self w in
-                    absurd (omega (arith, once w, counted w))
-              ]) in
+          elim (cases-lt w n) [
+            | inl l ↦ l
+            | inr g ↦
+                let same : w ≡ n = omega (arith, below w (omega (arith, counted w))) in
+                let hit-one : hit w n ≡ 1 = ap (λ z. hit w z) (sym same) ∙ hit-self w in
+                absurd (omega (arith, once w, counted w))
+          ]) in
           omega (arith, length-without n xs)
       | inr none ↦
           let less = few n xs once (λ w h.
-              elim (cases-lt w n) [
-                | inl l ↦ l
-                | inr g ↦
-                    let same : w ≡ n = omega (arith, below w h) in
-                    absurd (omega (arith, subst (λ z. 1 ≤ occurs z xs) same h))
-              ]) in
+          elim (cases-lt w n) [
+            | inl l ↦ l
+            | inr g ↦
+                let same : w ≡ n = omega (arith, below w h) in
+                absurd (omega (arith, subst (λ z. 1 ≤ occurs z xs) same h))
+          ]) in
           omega arith
     ]

@@ -44,9 +44,9 @@ module _ {C : Type 0} {k : Ops C} {j : Job C} {root : ℕ} {s : State C} (run : 
   top-inner S x z h d =
       let ztop = top-top S x z h in
       let lacks : has x (up s z) ≡ false = elim (cases-bool (has x (up s z))) [
-            | inl t ↦ absurd (d (up-antisym run x z t (top-above run S x z h .0)))
-            | inr f ↦ f
-          ] in
+        | inl t ↦ absurd (d (up-antisym run x z t (top-above run S x z h .0)))
+        | inr f ↦ f
+      ] in
       joined-has-top S z (parent (s .labels) x) z ztop (joined-sym run S (parent (s .labels) x) z (joined-climb run S x z (top-joined run S x z z h ztop) lacks))
 
   -- what is joined with more struck later is joined with fewer
@@ -65,17 +65,17 @@ module _ {C : Type 0} {k : Ops C} {j : Job C} {root : ℕ} {s : State C} (run : 
         | inr t ↦ absurd (t .0 refl)
       ])
       (λ z hz d ih h g c.
-        let free : has z (q ∷ S) ≡ false = lacks-more z q S (c z (up-self run z hz) h) (joined-free run S z x (joined-sym run S x z g)) in
-        elim (up-cases run x z h) [
-          | inl e ↦ subst (λ y. joined (up s) (q ∷ S) y z ≡ true) (sym e) (joined-refl run (q ∷ S) z hz free)
-          | inr t ↦
-              let p = parent (s .labels) z in
-              let pz : has p (up s z) ≡ true = up-more run p z hz d (up-self run p (parent-reached run z hz d)) in
-              let jpz : joined (up s) S p z ≡ true = joined-between run S x p z (t .1) pz g in
-              let jxp : joined (up s) (q ∷ S) x p ≡ true = ih (t .1) (joined-trans run S x z p g (joined-sym run S p z jpz)) (λ y hy. c y (up-more run y z hz d hy)) in
-              let pfree : has p (q ∷ S) ≡ false = joined-free run (q ∷ S) p x (joined-sym run (q ∷ S) x p jxp) in
-              joined-trans run (q ∷ S) x p z jxp (joined-sym run (q ∷ S) z p (joined-parent run (q ∷ S) z hz d free pfree))
-        ]) u (up-settled run x u hx) hx hj clear
+      let free : has z (q ∷ S) ≡ false = lacks-more z q S (c z (up-self run z hz) h) (joined-free run S z x (joined-sym run S x z g)) in
+      elim (up-cases run x z h) [
+        | inl e ↦ subst (λ y. joined (up s) (q ∷ S) y z ≡ true) (sym e) (joined-refl run (q ∷ S) z hz free)
+        | inr t ↦
+            let p = parent (s .labels) z in
+            let pz : has p (up s z) ≡ true = up-more run p z hz d (up-self run p (parent-reached run z hz d)) in
+            let jpz : joined (up s) S p z ≡ true = joined-between run S x p z (t .1) pz g in
+            let jxp : joined (up s) (q ∷ S) x p ≡ true = ih (t .1) (joined-trans run S x z p g (joined-sym run S p z jpz)) (λ y hy. c y (up-more run y z hz d hy)) in
+            let pfree : has p (q ∷ S) ≡ false = joined-free run (q ∷ S) p x (joined-sym run (q ∷ S) x p jxp) in
+            joined-trans run (q ∷ S) x p z jxp (joined-sym run (q ∷ S) z p (joined-parent run (q ∷ S) z hz d free pfree))
+      ]) u (up-settled run x u hx) hx hj clear
 
 -- two climbs from a struck site q and the top z of its piece before S: one to the top of a later piece, the other to a site u that lies elsewhere; they keep within the piece of q, share no site, and the second, with the parents of its sites, keeps out of the later piece
 pub record Ways {C : Type 0} (s : State C) (q : ℕ) (S : List ℕ) (z u : ℕ) (later : List ℕ) (low : ℕ) : Type 0 where
@@ -95,11 +95,10 @@ pub record Ways {C : Type 0} (s : State C) (q : ℕ) (S : List ℕ) (z u : ℕ) 
   pub other-starts : (x : ℕ) → has x other-sites ≡ true → top-of s later (parent (s .labels) x) ≡ Some low → ⊥
 
 module _ {C : Type 0} {k : Ops C} {j : Job C} {root : ℕ} {s : State C} (run : Run-laws k j root s)
-  (q : ℕ) (S : List ℕ) (z : ℕ) (hq : top-of s S q ≡ Some z)
-  (u t : ℕ) (hu : top-of s S u ≡ Some z) (ht : top-of s S t ≡ Some z)
-  (parted : (u ≡ q) ⊎ (joined (up s) (q ∷ S) u t ≡ false))
-  (more : List ℕ) (low : ℕ) (hlow : top-of s (more ++ q ∷ S) t ≡ Some low) where
-
+    (q : ℕ) (S : List ℕ) (z : ℕ) (hq : top-of s S q ≡ Some z)
+    (u t : ℕ) (hu : top-of s S u ≡ Some z) (ht : top-of s S t ≡ Some z)
+    (parted : (u ≡ q) ⊎ (joined (up s) (q ∷ S) u t ≡ false))
+    (more : List ℕ) (low : ℕ) (hlow : top-of s (more ++ q ∷ S) t ≡ Some low) where
   -- the top of the later piece stays with its site when q is struck
   low-joined : joined (up s) (q ∷ S) low t ≡ true
   low-joined = joined-before run more (q ∷ S) low t (top-joined run (more ++ q ∷ S) low t low (top-top run (more ++ q ∷ S) t low hlow) hlow)
@@ -143,16 +142,16 @@ module _ {C : Type 0} {k : Ops C} {j : Job C} {root : ℕ} {s : State C} (run : 
       let b = climb-of run q u h in
       let zr = up-reached run z q q-under in
       let inside : (x : ℕ) → has x (b .0) ≡ true → top-of s S x ≡ Some z =
-            λ x i. top-between run S u x z hu (climb-over run u q x (b .0) (b .1) i) (up-trans run z q x q-under (climb-under run u q x (b .0) (b .1) q-reached i)) in
+      λ x i. top-between run S u x z hu (climb-over run u q x (b .0) (b .1) i) (up-trans run z q x q-under (climb-under run u q x (b .0) (b .1) q-reached i)) in
       let not-past : (x : ℕ) → has x (b .0) ≡ true → (y : ℕ) → has x (up s y) ≡ true → y ≡ q → ⊥ =
-            λ x i y g e. climb-apart run u q x (b .0) (b .1) q-reached i (up-antisym run x q (subst (λ w. has x (up s w) ≡ true) e g) (climb-under run u q x (b .0) (b .1) q-reached i)) in
+      λ x i y g e. climb-apart run u q x (b .0) (b .1) q-reached i (up-antisym run x q (subst (λ w. has x (up s w) ≡ true) e g) (climb-under run u q x (b .0) (b .1) q-reached i)) in
       let out : (x : ℕ) → has x (b .0) ≡ true → joined (up s) (q ∷ S) x t ≡ true → ⊥ =
-            λ x i g. elim parted [
-              | inl e ↦ not-past x i u (climb-over run u q x (b .0) (b .1) i) e
-              | inr f ↦
-                  let xu = joined-past run q S x u (climb-over run u q x (b .0) (b .1) i) (top-joined run S x u z (inside x i) hu) (λ y hy gy. not-past x i y gy) in
-                  both-ways (joined (up s) (q ∷ S) u t) f (joined-trans run (q ∷ S) u x t (joined-sym run (q ∷ S) x u xu) g)
-            ] in
+      λ x i g. elim parted [
+        | inl e ↦ not-past x i u (climb-over run u q x (b .0) (b .1) i) e
+        | inr f ↦
+            let xu = joined-past run q S x u (climb-over run u q x (b .0) (b .1) i) (top-joined run S x u z (inside x i) hu) (λ y hy gy. not-past x i y gy) in
+            both-ways (joined (up s) (q ∷ S) u t) f (joined-trans run (q ∷ S) u x t (joined-sym run (q ∷ S) x u xu) g)
+      ] in
       record {
         from = z;
         other = q;
@@ -166,9 +165,9 @@ module _ {C : Type 0} {k : Ops C} {j : Job C} {root : ℕ} {s : State C} (run : 
         within = λ x i. top-between run S low x z low-top (climb-over run low z x (a .0) (a .1) i) (climb-under run low z x (a .0) (a .1) zr i);
         other-within = inside;
         apart = λ x i o.
-          let above = climb-over run low z x (a .0) (a .1) i in
-          let xl = joined-past run q S x low above (top-joined run S x low z (inside x o) low-top) (λ y hy gy. not-past x o y gy) in
-          out x o (joined-trans run (q ∷ S) x low t xl low-joined);
+            let above = climb-over run low z x (a .0) (a .1) i in
+            let xl = joined-past run q S x low above (top-joined run S x low z (inside x o) low-top) (λ y hy gy. not-past x o y gy) in
+            out x o (joined-trans run (q ∷ S) x low t xl low-joined);
         other-out = λ x o g. out x o (in-later x g);
         other-starts = λ x o. starts-out x (climb-not-root run u q x (b .0) (b .1) q-reached o) (inside x o) (climb-apart run u q x (b .0) (b .1) q-reached o) (out x o);
       }
@@ -180,24 +179,24 @@ module _ {C : Type 0} {k : Ops C} {j : Job C} {root : ℕ} {s : State C} (run : 
       let zu = top-above run S u z hu .0 in
       let not-past : (y : ℕ) → has y (up s u) ≡ true → y ≡ q → ⊥ = λ y g e. both-ways (has q (up s u)) h (subst (λ w. has w (up s u) ≡ true) e g) in
       let cut : joined (up s) (q ∷ S) u t ≡ false = elim parted [
-            | inl e ↦ absurd (not-past u (up-self run u (top-reached run S u z hu)) e)
-            | inr f ↦ f
-          ] in
+        | inl e ↦ absurd (not-past u (up-self run u (top-reached run S u z hu)) e)
+        | inr f ↦ f
+      ] in
       let past-u : (x : ℕ) → has x (up s u) ≡ true → top-of s S x ≡ Some z → joined (up s) (q ∷ S) u x ≡ true =
-            λ x g i. joined-sym run (q ∷ S) x u (joined-past run q S x u g (top-joined run S x u z i hu) (λ y hy gy. not-past y hy)) in
+      λ x g i. joined-sym run (q ∷ S) x u (joined-past run q S x u g (top-joined run S x u z i hu) (λ y hy gy. not-past y hy)) in
       let above : has q (up s low) ≡ true = elim (cases-bool (has q (up s low))) [
-            | inl g ↦ g
-            | inr f ↦
-                let ztop = top-top run S u z hu in
-                let zl = joined-past run q S z low (top-above run S low z low-top .0) (top-joined run S z low z ztop low-top) (λ y hy gy e. both-ways (has q (up s low)) f (subst (λ w. has w (up s low) ≡ true) e hy)) in
-                absurd (both-ways (joined (up s) (q ∷ S) u t) cut (joined-trans run (q ∷ S) u z t (past-u z zu ztop) (joined-trans run (q ∷ S) z low t zl low-joined)))
-          ] in
+        | inl g ↦ g
+        | inr f ↦
+            let ztop = top-top run S u z hu in
+            let zl = joined-past run q S z low (top-above run S low z low-top .0) (top-joined run S z low z ztop low-top) (λ y hy gy e. both-ways (has q (up s low)) f (subst (λ w. has w (up s low) ≡ true) e hy)) in
+            absurd (both-ways (joined (up s) (q ∷ S) u t) cut (joined-trans run (q ∷ S) u z t (past-u z zu ztop) (joined-trans run (q ∷ S) z low t zl low-joined)))
+      ] in
       let a = climb-of run q low above in
       let b = climb-of run z u zu in
       let inside : (x : ℕ) → has x (b .0) ≡ true → top-of s S x ≡ Some z =
-            λ x i. top-between run S u x z hu (climb-over run u z x (b .0) (b .1) i) (climb-under run u z x (b .0) (b .1) zr i) in
+      λ x i. top-between run S u x z hu (climb-over run u z x (b .0) (b .1) i) (climb-under run u z x (b .0) (b .1) zr i) in
       let out : (x : ℕ) → has x (b .0) ≡ true → joined (up s) (q ∷ S) x t ≡ true → ⊥ =
-            λ x o g. both-ways (joined (up s) (q ∷ S) u t) cut (joined-trans run (q ∷ S) u x t (past-u x (climb-over run u z x (b .0) (b .1) o) (inside x o)) g) in
+      λ x o g. both-ways (joined (up s) (q ∷ S) u t) cut (joined-trans run (q ∷ S) u x t (past-u x (climb-over run u z x (b .0) (b .1) o) (inside x o)) g) in
       record {
         from = q;
         other = z;

@@ -136,15 +136,15 @@ module _ {C : Type 0} {k : Ops C} {j : Job C} {root : ℕ} {s : State C} (run : 
       by-parents run (λ y. top-of s S y ≡ Some z → has (parent (s .labels) z) S ≡ true)
       (λ q. absurd (nz (some-same q (top-root S (top-free S root z q)))))
       (λ y hy n ih q.
-        elim (cases-option (top-of s S (parent (s .labels) y))) [
-          | inl o ↦
-              let e : y ≡ z = some-same (top-other S y hy n (top-free S y z q) ∙ ap (λ t. later t y) o) q in
-              elim (cases-bool (has (parent (s .labels) y) S)) [
-                | inl t ↦ subst (λ x. has (parent (s .labels) x) S ≡ true) e t
-                | inr f ↦ absurd (some-none (top-some S (parent (s .labels) y) (parent-reached run y hy n) f .1) o)
-              ]
-          | inr o ↦ ih (o .1 ∙ ap Some (some-same (top-same S y (o .0) hy n (top-free S y z q) (o .1)) q))
-        ]) w (top-reached S w z h) h
+      elim (cases-option (top-of s S (parent (s .labels) y))) [
+        | inl o ↦
+            let e : y ≡ z = some-same (top-other S y hy n (top-free S y z q) ∙ ap (λ t. later t y) o) q in
+            elim (cases-bool (has (parent (s .labels) y) S)) [
+              | inl t ↦ subst (λ x. has (parent (s .labels) x) S ≡ true) e t
+              | inr f ↦ absurd (some-none (top-some S (parent (s .labels) y) (parent-reached run y hy n) f .1) o)
+            ]
+        | inr o ↦ ih (o .1 ∙ ap Some (some-same (top-same S y (o .0) hy n (top-free S y z q) (o .1)) q))
+      ]) w (top-reached S w z h) h
 
   -- joined sites are not struck
   pub joined-free : (S : List ℕ) (u w : ℕ) → joined (up s) S u w ≡ true → has u S ≡ false
@@ -196,22 +196,22 @@ module _ {C : Type 0} {k : Ops C} {j : Job C} {root : ℕ} {s : State C} (run : 
         | inr q ↦ absurd (q .0 refl)
       ])
       (λ y hy n ih h g.
-        let p = joined-top S a y g in
-        let free : has y S ≡ false = top-free S y (p .0) (p .2) in
-        elim (up-cases run b y h) [
-          | inl e ↦ subst (λ z. joined (up s) S z y ≡ true) (sym e) (joined-refl S y hy free)
-          | inr q ↦
-              elim (cases-option (top-of s S (parent (s .labels) y))) [
-                | inl o ↦
-                    let e : p .0 ≡ y = some-same (p .2) (top-other S y hy n free ∙ ap (λ z. later z y) o) in
-                    let ya : has y (up s a) ≡ true = subst (λ z. has z (up s a) ≡ true) e (top-above S a (p .0) (p .1) .0) in
-                    absurd (both-ways (has y (up s (parent (s .labels) y))) (up-parent-lacks run y hy n) (up-trans run y a (parent (s .labels) y) ya (up-trans run a b (parent (s .labels) y) hab (q .1))))
-                | inr o ↦
-                    let same : top-of s S y ≡ Some (o .0) = top-same S y (o .0) hy n free (o .1) in
-                    let up-joined : joined (up s) S (parent (s .labels) y) y ≡ true = top-joined S (parent (s .labels) y) y (o .0) (o .1) same in
-                    joined-trans S b (parent (s .labels) y) y (ih (q .1) (joined-trans S a y (parent (s .labels) y) g (joined-sym S (parent (s .labels) y) y up-joined))) up-joined
-              ]
-        ]) t (up-settled run b t hbt) hbt hj
+      let p = joined-top S a y g in
+      let free : has y S ≡ false = top-free S y (p .0) (p .2) in
+      elim (up-cases run b y h) [
+        | inl e ↦ subst (λ z. joined (up s) S z y ≡ true) (sym e) (joined-refl S y hy free)
+        | inr q ↦
+            elim (cases-option (top-of s S (parent (s .labels) y))) [
+              | inl o ↦
+                  let e : p .0 ≡ y = some-same (p .2) (top-other S y hy n free ∙ ap (λ z. later z y) o) in
+                  let ya : has y (up s a) ≡ true = subst (λ z. has z (up s a) ≡ true) e (top-above S a (p .0) (p .1) .0) in
+                  absurd (both-ways (has y (up s (parent (s .labels) y))) (up-parent-lacks run y hy n) (up-trans run y a (parent (s .labels) y) ya (up-trans run a b (parent (s .labels) y) hab (q .1))))
+              | inr o ↦
+                  let same : top-of s S y ≡ Some (o .0) = top-same S y (o .0) hy n free (o .1) in
+                  let up-joined : joined (up s) S (parent (s .labels) y) y ≡ true = top-joined S (parent (s .labels) y) y (o .0) (o .1) same in
+                  joined-trans S b (parent (s .labels) y) y (ih (q .1) (joined-trans S a y (parent (s .labels) y) g (joined-sym S (parent (s .labels) y) y up-joined))) up-joined
+            ]
+      ]) t (up-settled run b t hbt) hbt hj
 
   -- with fewer struck, the top is that of the top
   pub top-fewer : (y : ℕ) (S : List ℕ) (w z : ℕ) → top-of s (y ∷ S) w ≡ Some z → top-of s S w ≡ top-of s S z
@@ -219,16 +219,16 @@ module _ {C : Type 0} {k : Ops C} {j : Job C} {root : ℕ} {s : State C} (run : 
       by-parents run (λ x. top-of s (y ∷ S) x ≡ Some z → top-of s S x ≡ top-of s S z)
       (λ q. ap (top-of s S) (some-same (top-root (y ∷ S) (top-free (y ∷ S) root z q)) q))
       (λ x hx n ih q.
-        let free : has x (y ∷ S) ≡ false = top-free (y ∷ S) x z q in
-        elim (cases-option (top-of s (y ∷ S) (parent (s .labels) x))) [
-          | inl o ↦ ap (top-of s S) (some-same (top-other (y ∷ S) x hx n free ∙ ap (λ t. later t x) o) q)
-          | inr o ↦
-              let e : o .0 ≡ z = some-same (top-same (y ∷ S) x (o .0) hx n free (o .1)) q in
-              let rest : top-of s S (parent (s .labels) x) ≡ top-of s S z = ih (o .1 ∙ ap Some e) in
-              let a = top-above (y ∷ S) x z q in
-              let b = top-some S z (up-reached run z x (a .0)) (lacks-tail z y S (a .1)) in
-              top-same S x (b .0) hx n (lacks-tail x y S free) (rest ∙ b .1) ∙ sym (b .1)
-        ]) w (top-reached (y ∷ S) w z h) h
+      let free : has x (y ∷ S) ≡ false = top-free (y ∷ S) x z q in
+      elim (cases-option (top-of s (y ∷ S) (parent (s .labels) x))) [
+        | inl o ↦ ap (top-of s S) (some-same (top-other (y ∷ S) x hx n free ∙ ap (λ t. later t x) o) q)
+        | inr o ↦
+            let e : o .0 ≡ z = some-same (top-same (y ∷ S) x (o .0) hx n free (o .1)) q in
+            let rest : top-of s S (parent (s .labels) x) ≡ top-of s S z = ih (o .1 ∙ ap Some e) in
+            let a = top-above (y ∷ S) x z q in
+            let b = top-some S z (up-reached run z x (a .0)) (lacks-tail z y S (a .1)) in
+            top-same S x (b .0) hx n (lacks-tail x y S free) (rest ∙ b .1) ∙ sym (b .1)
+      ]) w (top-reached (y ∷ S) w z h) h
 
   -- what is joined with more struck is joined with fewer
   pub joined-fewer : (y : ℕ) (S : List ℕ) (u w : ℕ) → joined (up s) (y ∷ S) u w ≡ true → joined (up s) S u w ≡ true
@@ -254,9 +254,9 @@ module _ {C : Type 0} {k : Ops C} {j : Job C} {root : ℕ} {s : State C} (run : 
             let p = parent (s .labels) x in
             let differs : x ≡ y → ⊥ = λ e. both-ways (joined (up s) S y x) g (subst (λ z. joined (up s) S z x ≡ true) e (joined-refl S x hx o)) in
             let apart : joined (up s) S y p ≡ false = elim (cases-bool (joined (up s) S y p)) [
-                  | inl t ↦ absurd (both-ways (joined (up s) S y x) g (joined-trans S y p x t (joined-sym S x p (joined-parent S x hx n o (joined-free S p y (joined-sym S y p t))))))
-                  | inr e ↦ e
-                ] in
+              | inl t ↦ absurd (both-ways (joined (up s) S y x) g (joined-trans S y p x t (joined-sym S x p (joined-parent S x hx n o (joined-free S p y (joined-sym S y p t))))))
+              | inr e ↦ e
+            ] in
             top-other (y ∷ S) x hx n (lacks-more x y S differs o) ∙ ap (λ t. later t x) (ih apart) ∙ sym (top-other S x hx n o)
       ]) w h f
 
@@ -268,9 +268,9 @@ module _ {C : Type 0} {k : Ops C} {j : Job C} {root : ℕ} {s : State C} (run : 
         | inr g ↦
             let p = joined-top S u w h in
             let g′ : joined (up s) S y w ≡ false = elim (cases-bool (joined (up s) S y w)) [
-                  | inl t ↦ absurd (both-ways (joined (up s) S y u) g (joined-trans S y w u t (joined-sym S u w h)))
-                  | inr e ↦ e
-                ] in
+              | inl t ↦ absurd (both-ways (joined (up s) S y u) g (joined-trans S y w u t (joined-sym S u w h)))
+              | inr e ↦ e
+            ] in
             absurd (both-ways (joined (up s) (y ∷ S) u w) f
-              (top-joined (y ∷ S) u w (p .0) (top-kept y S u (top-reached S u (p .0) (p .1)) g ∙ p .1) (top-kept y S w (top-reached S w (p .0) (p .2)) g′ ∙ p .2)))
+            (top-joined (y ∷ S) u w (p .0) (top-kept y S u (top-reached S u (p .0) (p .1)) g ∙ p .1) (top-kept y S w (top-reached S w (p .0) (p .2)) g′ ∙ p .2)))
       ]

@@ -255,14 +255,15 @@ module _ {C : Type 0} {k : Ops C} (laws : Laws k) (j : Job C) (root : ℕ) (soun
                   let o = r .offers z R e g l (before z l z-old l-is) in
                   let open-end : has (j .end e) (s .order) ≡ false = refuted (has (j .end e) (s .order)) (λ t. left (subst (λ T. has (j .end e) T ≡ true) (sym (q .1)) t)) in
                   let best = n .least (j .end e) (r .labelled (j .end e) (o .0) (o .1)) open-end (o .0) (o .1) in
-                  let costs : m .cost ≡ c = after-newest m (subst (λ a. after .labels a ≡ Some m) (q .0) is) in
-                  (le-trans laws (le-same laws costs) (le-trans laws (best .0) (o .2)),
-                  λ equal.
-                    let same : c ≡ o .0 .cost = le-antisym laws (best .0) (le-trans laws (o .2) (le-same laws (sym equal ∙ costs))) in
-                    let most : y ≤ j .end e = best .1 same in
-                    let here : x ≡ y = q .0 in
-                    let apart : (j .end e ≡ y) → ⊥ = λ t. other (t ∙ sym here) in
-                    omega (arith, apart))
+                  let costs : m .cost ≡ c = after-newest m (subst (λ a. after .labels a ≡ Some m) (q .0) is) in (
+                    le-trans laws (le-same laws costs) (le-trans laws (best .0) (o .2)),
+                    λ equal.
+                        let same : c ≡ o .0 .cost = le-antisym laws (best .0) (le-trans laws (o .2) (le-same laws (sym equal ∙ costs))) in
+                        let most : y ≤ j .end e = best .1 same in
+                        let here : x ≡ y = q .0 in
+                        let apart : (j .end e ≡ y) → ⊥ = λ t. other (t ∙ sym here) in
+                        omega (arith, apart),
+                  )
             ]
         | inr old ↦
             let z-old : has z (s .order) ≡ true = moment-before old z z-in in
@@ -275,8 +276,8 @@ module _ {C : Type 0} {k : Ops C} (laws : Laws k) (j : Job C) (root : ℕ) (soun
   -- what holds of a run holds with one site more
   pub one-settled : Running k j root after
   one-settled = record {
-      root-label = stays laws j y c (s .order) (s .labels) (λ e. sound .adds y (s .order) e) root (record { cost = k .zero; link = 0; turn = root }) (r .root-label) newest-zero;
-      began =
+    root-label = stays laws j y c (s .order) (s .labels) (λ e. sound .adds y (s .order) e) root (record { cost = k .zero; link = 0; turn = root }) (r .root-label) newest-zero;
+    began =
         elim (r .began) [
           | inl b ↦
               let at-root : y ≡ root = b .1 y (n .label) (n .labelled) in
@@ -284,15 +285,15 @@ module _ {C : Type 0} {k : Ops C} (laws : Laws k) (j : Job C) (root : ℕ) (soun
               inr (record { later = []; whole = cc })
           | inr m ↦ inr (moment-more y m)
         ];
-      once = once-more;
-      labelled = labelled-more;
-      least-zero = least-zero-more;
-      has-label = λ w h. let l = low w h in (l .0, was w h ∙ l .1);
-      frontier = λ x w settled-x left l m l-is m-is. le-trans laws (after-low x l settled-x l-is) (ahead w m left m-is);
-      rising = rising-more;
-      offers = offers-more;
-      reason = reason-more;
-      turn-first = turn-first-more;
-      earliest = earliest-more;
-      chosen = chosen-more;
-    }
+    once = once-more;
+    labelled = labelled-more;
+    least-zero = least-zero-more;
+    has-label = λ w h. let l = low w h in (l .0, was w h ∙ l .1);
+    frontier = λ x w settled-x left l m l-is m-is. le-trans laws (after-low x l settled-x l-is) (ahead w m left m-is);
+    rising = rising-more;
+    offers = offers-more;
+    reason = reason-more;
+    turn-first = turn-first-more;
+    earliest = earliest-more;
+    chosen = chosen-more;
+  }

@@ -64,20 +64,20 @@ module _ {C : Type 0} {k : Ops C} (laws : Laws k) (j : Job C) (y : ℕ) (c : C) 
   module _ (S : List ℕ) (labels : ℕ → Option (Label C)) where
     -- a link that changes nothing at a site
     passed : (e w : ℕ)
-      → spread k j y c S labels (suc e) w ≡ spread k j y c S labels e w
-      → (j .considers y S e ≡ true → j .end e ≡ w → (m : Label C) × (spread k j y c S labels e w ≡ Some m) × Le k (m .cost) (k .plus c (j .adds e)))
-      → Kept k j y c S labels e w ⊎ Renewed k j y c S labels e w
-      → Kept k j y c S labels (suc e) w ⊎ Renewed k j y c S labels (suc e) w
+        → spread k j y c S labels (suc e) w ≡ spread k j y c S labels e w
+        → (j .considers y S e ≡ true → j .end e ≡ w → (m : Label C) × (spread k j y c S labels e w ≡ Some m) × Le k (m .cost) (k .plus c (j .adds e)))
+        → Kept k j y c S labels e w ⊎ Renewed k j y c S labels e w
+        → Kept k j y c S labels (suc e) w ⊎ Renewed k j y c S labels (suc e) w
     passed e w same met (inl a) =
         inl (record {
           same = same ∙ a .same;
           low = λ f h cons ends.
-            elim (below-cases f e h) [
-              | inl l ↦ a .low f l cons ends
-              | inr q ↦
-                  let r = met (subst (λ z. j .considers y S z ≡ true) q cons) (subst (λ z. j .end z ≡ w) q ends) in
-                  (r .0, sym (a .same) ∙ r .1, subst (λ z. Le k (r .0 .cost) (k .plus c (j .adds z))) (sym q) (r .2))
-            ];
+              elim (below-cases f e h) [
+                | inl l ↦ a .low f l cons ends
+                | inr q ↦
+                    let r = met (subst (λ z. j .considers y S z ≡ true) q cons) (subst (λ z. j .end z ≡ w) q ends) in
+                    (r .0, sym (a .same) ∙ r .1, subst (λ z. Le k (r .0 .cost) (k .plus c (j .adds z))) (sym q) (r .2))
+              ];
         })
     passed e w same met (inr a) =
         inr (record {
@@ -88,25 +88,26 @@ module _ {C : Type 0} {k : Ops C} (laws : Laws k) (j : Job C) (y : ℕ) (c : C) 
           label = same ∙ a .label;
           lower = a .lower;
           low = λ f h cons ends.
-            elim (below-cases f e h) [
-              | inl l ↦ a .low f l cons ends
-              | inr q ↦
-                  let r = met (subst (λ z. j .considers y S z ≡ true) q cons) (subst (λ z. j .end z ≡ w) q ends) in
-                  let is : Some (r .0) ≡ Some (given k j y c (a .over)) = sym (r .1) ∙ a .label in
-                  let costs : r .0 .cost ≡ k .plus c (j .adds (a .over)) = cc in
-                  (subst (λ z. Le k z (k .plus c (j .adds f))) costs (subst (λ z. Le k (r .0 .cost) (k .plus c (j .adds z))) (sym q) (r .2)),
-                  λ _. omega (arith, a .below))
-            ];
+              elim (below-cases f e h) [
+                | inl l ↦ a .low f l cons ends
+                | inr q ↦
+                    let r = met (subst (λ z. j .considers y S z ≡ true) q cons) (subst (λ z. j .end z ≡ w) q ends) in
+                    let is : Some (r .0) ≡ Some (given k j y c (a .over)) = sym (r .1) ∙ a .label in
+                    let costs : r .0 .cost ≡ k .plus c (j .adds (a .over)) = cc in (
+                      subst (λ z. Le k z (k .plus c (j .adds f))) costs (subst (λ z. Le k (r .0 .cost) (k .plus c (j .adds z))) (sym q) (r .2)),
+                      λ _. omega (arith, a .below),
+                    )
+              ];
         })
 
     -- a link that gives a site a new label
     renewed : (e w : ℕ)
-      → j .considers y S e ≡ true
-      → j .end e ≡ w
-      → spread k j y c S labels (suc e) w ≡ Some (given k j y c e)
-      → improves k (k .plus c (j .adds e)) (spread k j y c S labels e w) ≡ true
-      → Kept k j y c S labels e w ⊎ Renewed k j y c S labels e w
-      → Renewed k j y c S labels (suc e) w
+        → j .considers y S e ≡ true
+        → j .end e ≡ w
+        → spread k j y c S labels (suc e) w ≡ Some (given k j y c e)
+        → improves k (k .plus c (j .adds e)) (spread k j y c S labels e w) ≡ true
+        → Kept k j y c S labels e w ⊎ Renewed k j y c S labels e w
+        → Renewed k j y c S labels (suc e) w
     renewed e w cons ends label better (inl a) =
         let less : (l : Label C) → labels w ≡ Some l → Lt k (k .plus c (j .adds e)) (l .cost) = λ l is. improves-lt k (k .plus c (j .adds e)) (spread k j y c S labels e w) l better (a .same ∙ is) in
         record {
@@ -117,13 +118,13 @@ module _ {C : Type 0} {k : Ops C} (laws : Laws k) (j : Job C) (y : ℕ) (c : C) 
           label = label;
           lower = less;
           low = λ f h fcons fends.
-            elim (below-cases f e h) [
-              | inl l ↦
-                  let r = a .low f l fcons fends in
-                  let t = lt-le-trans laws (less (r .0) (r .1)) (r .2) in
-                  (lt-le laws t, λ q. absurd (lt-self laws (subst (λ z. Lt k z (k .plus c (j .adds f))) q t)))
-              | inr q ↦ (le-same laws (ap (λ z. k .plus c (j .adds z)) (sym q)), λ _. omega arith)
-            ];
+              elim (below-cases f e h) [
+                | inl l ↦
+                    let r = a .low f l fcons fends in
+                    let t = lt-le-trans laws (less (r .0) (r .1)) (r .2) in
+                    (lt-le laws t, λ q. absurd (lt-self laws (subst (λ z. Lt k z (k .plus c (j .adds f))) q t)))
+                | inr q ↦ (le-same laws (ap (λ z. k .plus c (j .adds z)) (sym q)), λ _. omega arith)
+              ];
         }
     renewed e w cons ends label better (inr a) =
         let less : Lt k (k .plus c (j .adds e)) (k .plus c (j .adds (a .over))) = improves-lt k (k .plus c (j .adds e)) (spread k j y c S labels e w) (given k j y c (a .over)) better (a .label) in
@@ -135,12 +136,12 @@ module _ {C : Type 0} {k : Ops C} (laws : Laws k) (j : Job C) (y : ℕ) (c : C) 
           label = label;
           lower = λ l is. lt-trans laws less (a .lower l is);
           low = λ f h fcons fends.
-            elim (below-cases f e h) [
-              | inl l ↦
-                  let t = lt-le-trans laws less (a .low f l fcons fends .0) in
-                  (lt-le laws t, λ q. absurd (lt-self laws (subst (λ z. Lt k z (k .plus c (j .adds f))) q t)))
-              | inr q ↦ (le-same laws (ap (λ z. k .plus c (j .adds z)) (sym q)), λ _. omega arith)
-            ];
+              elim (below-cases f e h) [
+                | inl l ↦
+                    let t = lt-le-trans laws less (a .low f l fcons fends .0) in
+                    (lt-le laws t, λ q. absurd (lt-self laws (subst (λ z. Lt k z (k .plus c (j .adds f))) q t)))
+                | inr q ↦ (le-same laws (ap (λ z. k .plus c (j .adds z)) (sym q)), λ _. omega arith)
+              ];
         }
 
     -- one link more at a site

@@ -81,13 +81,13 @@ module _ {C : Type 0} {k : Ops C} {v : View C} {root : ℕ} {first second : Stat
         moment = p .moment;
         link = sound .link e h;
         considers =
-          and-from (v .usable e && not (tree-link v first root e)) ((joined (up first) S x a && joined (up first) S x b) && (not (eqb b x) && (eqb a x || not (joined (up first) (x ∷ S) a b))))
-          (and-from (v .usable e) (not (tree-link v first root e)) h (not-from-false (tree-link v first root e) t))
-          (and-from (joined (up first) S x a && joined (up first) S x b) (not (eqb b x) && (eqb a x || not (joined (up first) (x ∷ S) a b)))
+            and-from (v .usable e && not (tree-link v first root e)) ((joined (up first) S x a && joined (up first) S x b) && (not (eqb b x) && (eqb a x || not (joined (up first) (x ∷ S) a b))))
+            (and-from (v .usable e) (not (tree-link v first root e)) h (not-from-false (tree-link v first root e) t))
+            (and-from (joined (up first) S x a && joined (up first) S x b) (not (eqb b x) && (eqb a x || not (joined (up first) (x ∷ S) a b)))
             (and-from (joined (up first) S x a) (joined (up first) S x b) xa xb)
             (and-from (not (eqb b x)) (eqb a x || not (joined (up first) (x ∷ S) a b))
-              (not-from-false (eqb b x) (ne-eqb b x n))
-              (or-right (eqb a x) (not (joined (up first) (x ∷ S) a b)) (not-from-false (joined (up first) (x ∷ S) a b) (p .apart)))));
+            (not-from-false (eqb b x) (ne-eqb b x n))
+            (or-right (eqb a x) (not (joined (up first) (x ∷ S) a b)) (not-from-false (joined (up first) (x ∷ S) a b) (p .apart)))));
       }
 
   -- so it labels its end, at no more than the strike's cost and its reduced cost

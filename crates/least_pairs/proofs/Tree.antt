@@ -86,10 +86,10 @@ module _ {C : Type 0} {k : Ops C} {j : Job C} {root : ℕ} {s : State C} (run : 
   pub by-parents : (P : ℕ → Type 0) → P root → ((w : ℕ) → has w (s .order) ≡ true → (w ≡ root → ⊥) → P (parent (s .labels) w) → P w) → (w : ℕ) → has w (s .order) ≡ true → P w
   by-parents P base step w h =
       by-order P (λ y S m below.
-        elim (cases-eq y root) [
-          | inl e ↦ subst P (sym e) base
-          | inr n ↦ step y (moment-has m) n (below (parent (s .labels) y) (parent-earlier y n S m))
-        ]) w h
+      elim (cases-eq y root) [
+        | inl e ↦ subst P (sym e) base
+        | inr n ↦ step y (moment-has m) n (below (parent (s .labels) y) (parent-earlier y n S m))
+      ]) w h
 
   -- who was settled up to a moment is not settled later
   pub moment-lacks : (y : ℕ) (S : List ℕ) (m : Moment (s .order) y S) → (x : ℕ) → has x (y ∷ S) ≡ true → has x (m .later) ≡ false
@@ -123,8 +123,8 @@ module _ {C : Type 0} {k : Ops C} {j : Job C} {root : ℕ} {s : State C} (run : 
       let early : has p S ≡ true = parent-earlier w n S m in
       let differs : p ≡ w → ⊥ = λ e. both-ways (has w S) (moment-new w S m) (subst (λ z. has z S ≡ true) e early) in
       let tail : up s p ≡ above (s .labels) S p =
-            up-moment w S m p (has-tail p w S early)
-            ∙ cond-false (eqb p w) (w ∷ above (s .labels) S p) (above (s .labels) S p) (ne-eqb p w differs) in
+      up-moment w S m p (has-tail p w S early)
+      ∙ cond-false (eqb p w) (w ∷ above (s .labels) S p) (above (s .labels) S p) (ne-eqb p w differs) in
       up-moment w S m w (has-head w S) ∙ above-head (s .labels) S w ∙ ap (λ us. w ∷ us) (sym tail)
 
   -- no site stands twice among those above another

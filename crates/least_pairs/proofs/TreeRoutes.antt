@@ -46,13 +46,13 @@ module _ {C : Type 0} {k : Ops C} {j : Job C} {root : ℕ} {first : State C} (ru
       by-parents run (λ y. has x (up first y) ≡ true → has (link-of (first .labels x)) (tree-route first (up first y)) ≡ true)
       (λ g. elim (up-cases run x root g) [ inl e ↦ absurd (nx e) | inr q ↦ absurd (q .0 refl) ])
       (λ y hy n ih g.
-        let e = link-of (first .labels x) in
-        let front = tree-route first (up first (parent (first .labels) y)) in
-        ap (has e) (tree-route-other y hy n)
-        ∙ elim (up-cases run x y g) [
-            | inl q ↦ has-right e front (link-of (first .labels y) ∷ []) (subst (λ z. has e (link-of (first .labels z) ∷ []) ≡ true) q (has-head e []))
-            | inr q ↦ has-left e front (link-of (first .labels y) ∷ []) (ih (q .1))
-          ]) w (up-settled run x w h) h
+      let e = link-of (first .labels x) in
+      let front = tree-route first (up first (parent (first .labels) y)) in
+      ap (has e) (tree-route-other y hy n)
+      ∙ elim (up-cases run x y g) [
+        | inl q ↦ has-right e front (link-of (first .labels y) ∷ []) (subst (λ z. has e (link-of (first .labels z) ∷ []) ≡ true) q (has-head e []))
+        | inr q ↦ has-left e front (link-of (first .labels y) ∷ []) (ih (q .1))
+      ]) w (up-settled run x w h) h
 
   -- a link on the tree route is the tree link of a site above
   pub tree-route-from : (e w : ℕ) → has w (first .order) ≡ true → has e (tree-route first (up first w)) ≡ true → (x : ℕ) × (has x (up first w) ≡ true) × (x ≡ root → ⊥) × (e ≡ link-of (first .labels x))
@@ -60,15 +60,15 @@ module _ {C : Type 0} {k : Ops C} {j : Job C} {root : ℕ} {first : State C} (ru
       by-parents run (λ y. has e (tree-route first (up first y)) ≡ true → (x : ℕ) × (has x (up first y) ≡ true) × (x ≡ root → ⊥) × (e ≡ link-of (first .labels x)))
       (λ g. absurd (both-ways false refl (sym (ap (has e) tree-route-root) ∙ g)))
       (λ y hy n ih g.
-        let front = tree-route first (up first (parent (first .labels) y)) in
-        elim (has-append e front (link-of (first .labels y) ∷ []) (sym (ap (has e) (tree-route-other y hy n)) ∙ g)) [
-          | inl q ↦ let p = ih q in (p .0, up-more run (p .0) y hy n (p .1), p .2, p .3)
-          | inr q ↦
-              elim (has-cases e (link-of (first .labels y)) [] q) [
-                | inl d ↦ (y, up-self run y hy, n, d)
-                | inr d ↦ absurd (both-ways false refl d)
-              ]
-        ]) w r h
+      let front = tree-route first (up first (parent (first .labels) y)) in
+      elim (has-append e front (link-of (first .labels y) ∷ []) (sym (ap (has e) (tree-route-other y hy n)) ∙ g)) [
+        | inl q ↦ let p = ih q in (p .0, up-more run (p .0) y hy n (p .1), p .2, p .3)
+        | inr q ↦
+            elim (has-cases e (link-of (first .labels y)) [] q) [
+              | inl d ↦ (y, up-self run y hy, n, d)
+              | inr d ↦ absurd (both-ways false refl d)
+            ]
+      ]) w r h
 
 module _ {C : Type 0} {k : Ops C} {v : View C} {root : ℕ} {first : State C} (laws : Laws k) (sound : Sound-view k v) (run : Run-laws k (first-job v) root first) where
   -- the tree route leads from the root to its site
@@ -77,10 +77,10 @@ module _ {C : Type 0} {k : Ops C} {v : View C} {root : ℕ} {first : State C} (l
       by-parents run (λ y. Walk v root (tree-route first (up first y)) y)
       (subst (λ es. Walk v root es root) (sym (tree-route-root run)) refl)
       (λ y hy n ih.
-        let t = tree-link-of laws sound run y hy n in
-        let p = parent (first .labels) y in
-        subst (λ es. Walk v root es y) (sym (tree-route-other run y hy n))
-        (walk-append v (tree-route first (up first p)) (link-of (first .labels y) ∷ []) root p y ih (t .usable, t .starts, t .ends))) w h
+      let t = tree-link-of laws sound run y hy n in
+      let p = parent (first .labels) y in
+      subst (λ es. Walk v root es y) (sym (tree-route-other run y hy n))
+      (walk-append v (tree-route first (up first p)) (link-of (first .labels y) ∷ []) root p y ih (t .usable, t .starts, t .ends))) w h
 
   -- the tree route uses no link twice
   pub tree-route-once : (w : ℕ) → has w (first .order) ≡ true → (e : ℕ) → occurs e (tree-route first (up first w)) ≤ 1
@@ -88,22 +88,22 @@ module _ {C : Type 0} {k : Ops C} {v : View C} {root : ℕ} {first : State C} (l
       by-parents run (λ y. occurs e (tree-route first (up first y)) ≤ 1)
       (omega (arith, ap (occurs e) (tree-route-root run)))
       (λ y hy n ih.
-        let p = parent (first .labels) y in
-        let d = link-of (first .labels y) in
-        let front = tree-route first (up first p) in
-        let whole : occurs e (tree-route first (up first y)) ≡ occurs e front + occurs e (d ∷ []) = ap (occurs e) (tree-route-other run y hy n) ∙ occurs-append e front (d ∷ []) in
-        let off : has d front ≡ false =
-              elim (cases-bool (has d front)) [
-                | inl t ↦
-                    let x = tree-route-from run d p (parent-reached run y hy n) t in
-                    let same : x .0 ≡ y =
-                          sym (tree-link-of laws sound run (x .0) (up-reached run (x .0) p (x .1)) (x .2) .ends)
-                          ∙ ap (v .end) (sym (x .3))
-                          ∙ tree-link-of laws sound run y hy n .ends in
-                    absurd (both-ways (has y (up first p)) (up-parent-lacks run y hy n) (subst (λ u. has u (up first p) ≡ true) same (x .1)))
-                | inr f ↦ f
-              ] in
-        single front d off ih whole) w h
+      let p = parent (first .labels) y in
+      let d = link-of (first .labels y) in
+      let front = tree-route first (up first p) in
+      let whole : occurs e (tree-route first (up first y)) ≡ occurs e front + occurs e (d ∷ []) = ap (occurs e) (tree-route-other run y hy n) ∙ occurs-append e front (d ∷ []) in
+      let off : has d front ≡ false =
+      elim (cases-bool (has d front)) [
+        | inl t ↦
+            let x = tree-route-from run d p (parent-reached run y hy n) t in
+            let same : x .0 ≡ y =
+            sym (tree-link-of laws sound run (x .0) (up-reached run (x .0) p (x .1)) (x .2) .ends)
+            ∙ ap (v .end) (sym (x .3))
+            ∙ tree-link-of laws sound run y hy n .ends in
+            absurd (both-ways (has y (up first p)) (up-parent-lacks run y hy n) (subst (λ u. has u (up first p) ≡ true) same (x .1)))
+        | inr f ↦ f
+      ] in
+      single front d off ih whole) w h
     where
       single : (front : List ℕ) (d : ℕ) {n : ℕ} → has d front ≡ false → occurs e front ≤ 1 → n ≡ occurs e front + occurs e (d ∷ []) → n ≤ 1
       single front d f ih q =

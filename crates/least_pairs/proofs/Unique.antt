@@ -156,10 +156,10 @@ module _ {C : Type 0} {k : Ops C} (laws : Laws k) (j : Job C) (root : ℕ) where
             record {
               older = older-moment (subst (λ x. Moment (t .order) x part) (sym (n .0)) (z .1));
               costs = λ w in-more f g f-is g-is.
-                elim (has-cases w y part in-more) [
-                  | inl q ↦ next-same s t a b part (h .older) (h .costs) y (z .0) moment (z .1) f g (subst (λ x. s .labels x ≡ Some f) q f-is) (subst (λ x. t .labels x ≡ Some g) (q ∙ n .0) g-is) .1
-                  | inr in-part ↦ h .costs w in-part f g f-is g-is
-                ];
+                  elim (has-cases w y part in-more) [
+                    | inl q ↦ next-same s t a b part (h .older) (h .costs) y (z .0) moment (z .1) f g (subst (λ x. s .labels x ≡ Some f) q f-is) (subst (λ x. t .labels x ≡ Some g) (q ∙ n .0) g-is) .1
+                    | inr in-part ↦ h .costs w in-part f g f-is g-is
+                  ];
             }
       ]
 
@@ -184,7 +184,7 @@ module _ {C : Type 0} {k : Ops C} (laws : Laws k) (j : Job C) (root : ℕ) where
       let n = b .has-label (l .turn) (subst (λ x. has (l .turn) x ≡ true) same turn-in) in
       let considered = subst (λ x. Considered j x (l .turn) (o .0) (l .link)) same (o .2) in
       let costs : m .cost ≡ k .plus (n .0 .cost) (j .adds (l .link)) =
-          sym (equal w (a .is-settled w l l-is) l m l-is m-is) ∙ o .5 ∙ ap (λ x. k .plus x (j .adds (l .link))) (equal (l .turn) turn-in (o .1) (n .0) (o .4) (n .1)) in
+      sym (equal w (a .is-settled w l l-is) l m l-is m-is) ∙ o .5 ∙ ap (λ x. k .plus x (j .adds (l .link))) (equal (l .turn) turn-in (o .1) (n .0) (o .4) (n .1)) in
       (o .0, o .2 .moment, b .earliest w m other m-is (l .turn) (o .0) (l .link) (n .0) considered (o .3) (n .1) costs)
 
   -- the labels of a site other than the root are one
@@ -230,9 +230,9 @@ module _ {C : Type 0} {k : Ops C} (laws : Laws k) (j : Job C) (root : ℕ) where
 -- the laws determine the outcome
 pub laws-determine : {C : Type 0} {k : Ops C} {j : Job C} {root : ℕ} → Laws k → (s t : State C) → Run-laws k j root s → Run-laws k j root t → Same s t
 laws-determine {C} {k} {j} {root} laws s t a b = record {
-    order = orders-same laws j root s t a b;
-    labels = λ w. labels-agree laws j root s t a b w (s .labels w) (t .labels w) refl refl;
-  }
+  order = orders-same laws j root s t a b;
+  labels = λ w. labels-agree laws j root s t a b w (s .labels w) (t .labels w) refl refl;
+}
 
 -- a state that keeps the laws of a sound run is its outcome
 pub laws-give-outcome : {C : Type 0} {k : Ops C} {j : Job C} {root : ℕ} → Laws k → Sound-job k j root → (s : State C) → Run-laws k j root s → Same s (outcome k j root)

@@ -46,17 +46,17 @@ few (suc n) xs once below =
       | inl t ↦
           let one : 1 ≤ occurs n xs = has-occurs n xs t in
           let rest : length (without n xs) ≤ n = few n (without n xs)
-            (λ e. omega (arith, once e, occurs-without e n xs one))
-            (λ e h. elim (cases-eq e n) [
-              | inl s ↦ absurd (omega (arith, subst (λ z. 1 ≤ occurs z (without n xs)) s h, once n, occurs-without n n xs one, hit-self n))
-              | inr d ↦ omega (arith, below e (occurs-in-without e n xs one h))
-            ]) in
+          (λ e. omega (arith, once e, occurs-without e n xs one))
+          (λ e h. elim (cases-eq e n) [
+            | inl s ↦ absurd (omega (arith, subst (λ z. 1 ≤ occurs z (without n xs)) s h, once n, occurs-without n n xs one, hit-self n))
+            | inr d ↦ omega (arith, below e (occurs-in-without e n xs one h))
+          ]) in
           omega (arith, length-without n xs one)
       | inr f ↦
           let rest : length xs ≤ n = few n xs once (λ e h. elim (cases-eq e n) [
-              | inl s ↦ absurd (omega (arith, subst (λ z. 1 ≤ occurs z xs) s h, lacks-occurs n xs f))
-              | inr d ↦ omega (arith, below e h)
-            ]) in
+            | inl s ↦ absurd (omega (arith, subst (λ z. 1 ≤ occurs z xs) s h, lacks-occurs n xs f))
+            | inr d ↦ omega (arith, below e h)
+          ]) in
           omega arith
     ]
 
@@ -91,9 +91,9 @@ wiped-has x w (y ∷ ys) h =
     (elim (eqb w y) as (λ b. eqb w y ≡ b → has x (cond b (wiped w ys) (y ∷ wiped w ys)) ≡ true → (x ≡ w → ⊥) × (has x (y ∷ ys) ≡ true)) [
       | true ↦ λ t g. let p = wiped-has x w ys g in (p .0, has-tail x y ys (p .1))
       | false ↦ λ t g. elim (has-cases x y (wiped w ys) g) [
-          | inl s ↦ (λ r. eqb-false w y t (sym r ∙ s), or-left (eqb x y) (has x ys) (eq-eqb x y s))
-          | inr i ↦ let p = wiped-has x w ys i in (p .0, has-tail x y ys (p .1))
-        ]
+        | inl s ↦ (λ r. eqb-false w y t (sym r ∙ s), or-left (eqb x y) (has x ys) (eq-eqb x y s))
+        | inr i ↦ let p = wiped-has x w ys i in (p .0, has-tail x y ys (p .1))
+      ]
     ]) refl h
 
 pub has-wiped : (x w : ℕ) (ms : List ℕ) → (x ≡ w → ⊥) → has x ms ≡ true → has x (wiped w ms) ≡ true
@@ -101,13 +101,13 @@ has-wiped x w [] d h = h
 has-wiped x w (y ∷ ys) d h =
     (elim (eqb w y) as (λ b. eqb w y ≡ b → has x (cond b (wiped w ys) (y ∷ wiped w ys)) ≡ true) [
       | true ↦ λ t. elim (has-cases x y ys h) [
-          | inl s ↦ absurd (d (s ∙ sym (eqb-true w y t)))
-          | inr i ↦ has-wiped x w ys d i
-        ]
+        | inl s ↦ absurd (d (s ∙ sym (eqb-true w y t)))
+        | inr i ↦ has-wiped x w ys d i
+      ]
       | false ↦ λ t. elim (has-cases x y ys h) [
-          | inl s ↦ or-left (eqb x y) (has x (wiped w ys)) (eq-eqb x y s)
-          | inr i ↦ has-tail x y (wiped w ys) (has-wiped x w ys d i)
-        ]
+        | inl s ↦ or-left (eqb x y) (has x (wiped w ys)) (eq-eqb x y s)
+        | inr i ↦ has-tail x y (wiped w ys) (has-wiped x w ys d i)
+      ]
     ]) refl
 
 -- what is left to walk: a list of links that balances a flow from the root to a site and to others, in which each marked site has its entry link, and each other link is the tree link of its end
@@ -158,24 +158,24 @@ module _ {C : Type 0} (v : View C) (first second : State C) (root : ℕ) (others
       let spent : occurs o (without o F) ≡ 0 = omega (arith, l .once o, occurs-without o o F one, hit-self o) in
       record {
         balance = λ x.
-          let ends : hit x (v .end o) ≡ hit x w = ap (hit x) lands in
-          omega (arith, l .balance x, occurs-map-without (v .start) x o F one, occurs-map-without (v .end) x o F one);
+            let ends : hit x (v .end o) ≡ hit x w = ap (hit x) lands in
+            omega (arith, l .balance x, occurs-map-without (v .start) x o F one, occurs-map-without (v .end) x o F one);
         once = λ e. omega (arith, l .once e, occurs-without e o F one);
         marked = λ x h.
-          let p = wiped-has x w ms h in
-          let q = l .marked x (p .1) in
-          let other : hit (link-of (second .labels x)) o ≡ 0 = ap (λ b. cond b 1 0) (ne-eqb (link-of (second .labels x)) o (λ s. p .0 (sym (q .1) ∙ ap (v .end) s ∙ lands))) in
-          (omega (arith, q .0, occurs-without (link-of (second .labels x)) o F one), q .1);
+            let p = wiped-has x w ms h in
+            let q = l .marked x (p .1) in
+            let other : hit (link-of (second .labels x)) o ≡ 0 = ap (λ b. cond b 1 0) (ne-eqb (link-of (second .labels x)) o (λ s. p .0 (sym (q .1) ∙ ap (v .end) s ∙ lands))) in
+            (omega (arith, q .0, occurs-without (link-of (second .labels x)) o F one), q .1);
         kinds = λ e h.
-          elim (l .kinds e (occurs-in-without e o F one h)) [
-            | inl p ↦ elim (cases-eq (v .end e) w) [
+            elim (l .kinds e (occurs-in-without e o F one h)) [
+              | inl p ↦ elim (cases-eq (v .end e) w) [
                 | inl s ↦
                     let taken : o ≡ e = cond-true (has w ms) (link-of (second .labels w)) (link-of (first .labels w)) (subst (λ z. has z ms ≡ true) s (p .1)) ∙ ap (λ z. link-of (second .labels z)) (sym s) ∙ sym (p .0) in
                     absurd (omega (arith, subst (λ z. 1 ≤ occurs z (without o F)) (sym taken) h))
                 | inr d ↦ inl (p .0, has-wiped (v .end e) w ms d (p .1))
               ]
-            | inr p ↦ inr p
-          ];
+              | inr p ↦ inr p
+            ];
         usable = λ e h. l .usable e (occurs-in-without e o F one h);
       }
 
@@ -191,12 +191,12 @@ module _ {C : Type 0} (v : View C) (first second : State C) (root : ℕ) (others
       cond-both (eqb w root) (es, ms) (walk-back v first second root n (v .start (over w ms)) (wiped w ms) (over w ms ∷ es)) (λ r. Walked v first second root target others roots es F r)
       (λ t. record { left = F; leads = subst (λ z. Walk v z es target) (eqb-true w root t) leads; still = subst (λ z. Left v first second root others roots z ms F) (eqb-true w root t) l; counted = λ e. refl })
       (λ f.
-        let p = picked w ms F l (eqb-false w root f) in
-        let o = over w ms in
-        let onward : Walk v (v .start o) (o ∷ es) target = (l .usable o (p .0), refl, subst (λ z. Walk v z es target) (sym (p .1)) leads) in
-        let shorter : length (without o F) ≤ n = omega (arith, length-without o F (p .0)) in
-        let r = walked target n (v .start o) (wiped w ms) (o ∷ es) (without o F) shorter (stepped w ms F l (p .0) (p .1)) onward in
-        record { left = r .left; leads = r .leads; still = r .still; counted = λ e. omega (arith, r .counted e, occurs-without e o F (p .0)) })
+      let p = picked w ms F l (eqb-false w root f) in
+      let o = over w ms in
+      let onward : Walk v (v .start o) (o ∷ es) target = (l .usable o (p .0), refl, subst (λ z. Walk v z es target) (sym (p .1)) leads) in
+      let shorter : length (without o F) ≤ n = omega (arith, length-without o F (p .0)) in
+      let r = walked target n (v .start o) (wiped w ms) (o ∷ es) (without o F) shorter (stepped w ms F l (p .0) (p .1)) onward in
+      record { left = r .left; leads = r .leads; still = r .still; counted = λ e. omega (arith, r .counted e, occurs-without e o F (p .0)) })
 
 -- what holds of all that occur in a list holds of each in it
 pub all-occurring : (P : ℕ → Type 0) (xs : List ℕ) → ((e : ℕ) → 1 ≤ occurs e xs → P e) → All P xs

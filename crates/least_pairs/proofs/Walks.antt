@@ -103,16 +103,16 @@ module _ {C : Type 0} {k : Ops C} (laws : Laws k) (v : View C) where
         | inl on ↦
             let ys′ = without x ys in
             let each′ : (e : ℕ) → has e xs ≡ true → (1 ≤ occurs e ys′) ⊎ Le k (f e) (g e) =
-                  λ e t. elim (each e (has-tail e x xs t)) [
-                    | inl o ↦ inl (other ys once e t o on)
-                    | inr h ↦ inr h
-                  ] in
+            λ e t. elim (each e (has-tail e x xs t)) [
+              | inl o ↦ inl (other ys once e t o on)
+              | inr h ↦ inr h
+            ] in
             let high′ : (e : ℕ) → has e ys′ ≡ true → Le k (k .zero) (f e) =
-                  λ e t. high e (occurs-has e ys (omega (arith, occurs-without e x ys on, has-occurs e ys′ t))) in
+            λ e t. high e (occurs-has e ys (omega (arith, occurs-without e x ys on, has-occurs e ys′ t))) in
             let ih = total-charged f g xs ys′ once′ each′ low′ high′ in
             le-trans laws
-              (by-le laws (f x ∷ g x ∷ total k f xs ∷ total k g xs ∷ total k f ys′ ∷ []) (plus-le laws (low x (has-head x xs)) ih) (search quoting depth 12) tt)
-              (le-same laws (ap (k .plus (k .plus (g x) (total k g xs))) (sym (total-without laws f x ys on))))
+            (by-le laws (f x ∷ g x ∷ total k f xs ∷ total k g xs ∷ total k f ys′ ∷ []) (plus-le laws (low x (has-head x xs)) ih) (search quoting depth 12) tt)
+            (le-same laws (ap (k .plus (k .plus (g x) (total k g xs))) (sym (total-without laws f x ys on))))
         | inr le ↦
             let each′ : (e : ℕ) → has e xs ≡ true → (1 ≤ occurs e ys) ⊎ Le k (f e) (g e) = λ e t. each e (has-tail e x xs t) in
             le-trans laws (plus-le laws le (total-charged f g xs ys once′ each′ low′ high)) (le-same laws (sym (laws .assoc (g x) (total k g xs) (total k f ys))))

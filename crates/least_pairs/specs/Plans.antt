@@ -53,9 +53,9 @@ second-job k v root first = record {
   links = v .links;
   end = v .end;
   considers = λ y S e.
-    (v .usable e && not (tree-link v first root e))
-    && ((joined (up first) S y (v .start e) && joined (up first) S y (v .end e))
-    && (not (eqb (v .end e) y) && (eqb (v .start e) y || not (joined (up first) (y ∷ S) (v .start e) (v .end e)))));
+      (v .usable e && not (tree-link v first root e))
+      && ((joined (up first) S y (v .start e) && joined (up first) S y (v .end e))
+      && (not (eqb (v .end e) y) && (eqb (v .start e) y || not (joined (up first) (y ∷ S) (v .start e) (v .end e)))));
   adds = reduced k v first;
 }
 

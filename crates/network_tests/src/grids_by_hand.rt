@@ -1,4 +1,4 @@
-// The smallest grid written out, and the limits of a grid.
+//! The smallest grid written out, and the limits of a grid.
 use grids::street_grid;
 use networks::building::BuildRefusal;
 use networks::building::BuildRefusalDebug;

@@ -1,4 +1,4 @@
-// Tests of networks, grids and layers on examples.
+//! Tests of networks, grids and layers on examples.
 #[cfg(test)]
 mod grids_by_hand;
 #[cfg(test)]

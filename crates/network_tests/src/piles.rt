@@ -1,4 +1,4 @@
-// Three layers over one network, in both orders, and takes and gives through them.
+//! Three layers over one network, in both orders, and takes and gives through them.
 use layers::closed::Closing;
 use layers::closing::ClosingIsNetwork;
 use layers::refusing::SurchargeRefusal;
@@ -6,8 +6,8 @@ use layers::refusing::SurchargeRefusalDebug;
 use layers::refusing::SurchargeRefusalPartialEq;
 use layers::surcharged::Surcharge;
 use layers::surcharging::SurchargeIsNetwork;
-use networks::model::Link;
 use networks::building::BuildRefusalDebug;
+use networks::model::Link;
 use networks::model::NetworkRefusal;
 use networks::model::NetworkRefusalDebug;
 use networks::model::NetworkRefusalPartialEq;
@@ -74,8 +74,14 @@ fn surcharges_around_a_closing(rt: LibcRuntime) -> Result<(), Fail> {
     check_eq(pile.lengths(0)?, (999_500, 40))?;
     pile.surcharge(0, 2_000)?;
     check_eq(pile.lengths(0)?, (1_000_000, 40))?;
-    check_eq(pile.surcharge(0, 1_000_001), Err(SurchargeRefusal::OutsideLimits))?;
-    check_eq(pile.surcharge(2, 1_000_001), Err(SurchargeRefusal::LinkTooHigh))?;
+    check_eq(
+        pile.surcharge(0, 1_000_001),
+        Err(SurchargeRefusal::OutsideLimits),
+    )?;
+    check_eq(
+        pile.surcharge(2, 1_000_001),
+        Err(SurchargeRefusal::LinkTooHigh),
+    )?;
     check_eq(pile.lengths(0)?, (1_000_000, 40))?;
     check_eq(pile.take(0), Ok(()))?;
     check_eq(pile.take(0), Err(NetworkRefusal::NotUsable))?;

@@ -32,9 +32,9 @@ answer-changed : {A : Type 0} (f : ℕ → Link → Link) (n : Net) (k : ℕ) (g
 answer-changed f n k g h e same =
     ap (λ m. cond (ltb k m) (g (link-at (changed f n) k)) e) (length-numbered f 0 (n .links))
     ∙ (elim (ltb k (length (n .links))) as (λ t. ltb k (length (n .links)) ≡ t → cond t (g (link-at (changed f n) k)) e ≡ cond t (h (link-at n k)) e) [
-        true ↦ λ q. let inside = ltb-true k (length (n .links)) q in ap g (link-at-changed f n k inside) ∙ same inside
+      | true ↦ λ q. let inside = ltb-true k (length (n .links)) q in ap g (link-at-changed f n k inside) ∙ same inside
       | false ↦ λ q. refl
-      ]) refl
+    ]) refl
 
 -- a layer tells of a link what lies below, changed
 pub told-changed : {A : Type 0} (f : ℕ → Link → Link) (g : Link → A) (n : Net) (k : ℕ) → told g (changed f n) k ≡ told (λ l. g (f k l)) n k
@@ -74,52 +74,52 @@ module _ (f : ℕ → Link → Link) (commutes : (g : ℕ → ℕ) (j : ℕ) (l 
   pub only-changed : (g : ℕ → ℕ) (k : ℕ) (n : Net) → changed (only k (retaken g)) (changed f n) ≡ changed f (changed (only k (retaken g)) n)
   only-changed g k n =
       let each : (j : ℕ) (l : Link) → only k (retaken g) j (f j l) ≡ f j (only k (retaken g) j l) =
-          λ j l. elim (eqb j k) as (λ b. cond b (retaken g (f j l)) (f j l) ≡ f j (cond b (retaken g l) l)) [ true ↦ sym (commutes g j l) | false ↦ refl ] in
+      λ j l. elim (eqb j k) as (λ b. cond b (retaken g (f j l)) (f j l) ≡ f j (cond b (retaken g l) l)) [ true ↦ sym (commutes g j l) | false ↦ refl ] in
       ap (λ ls. record { sites = n .sites; links = ls }) (numbered-swap (only k (retaken g)) f each 0 (n .links))
 
   -- networks alike but for channels taken look so through the layer
   pub alike-changed : (a b : Net) → cleared a ≡ cleared b → cleared (changed f a) ≡ cleared (changed f b)
   alike-changed a b e =
       let over : (n : Net) → cleared (changed f n) ≡ changed f (cleared n) =
-          λ n. ap (λ ls. record { sites = n .sites; links = ls }) (numbered-swap (λ j. retaken (λ t. 0)) f (λ j l. sym (commutes (λ t. 0) j l)) 0 (n .links)) in
+      λ n. ap (λ ls. record { sites = n .sites; links = ls }) (numbered-swap (λ j. retaken (λ t. 0)) f (λ j l. sym (commutes (λ t. 0) j l)) 0 (n .links)) in
       over a ∙ ap (changed f) e ∙ sym (over b)
 
   -- a take that is passed down: answered alike, the layer shows what it left
   pub take-passed : (n : Net) (k : ℕ) → (k < length (n .links) → usable (f k (link-at n k)) ≡ usable (link-at n k)) → (take-answer (changed f n) k ≡ take-answer n k) × (take-after (changed f n) k ≡ changed f (take-after n k))
   take-passed n k same =
       let answer : take-answer (changed f n) k ≡ take-answer n k =
-          answer-changed f n k (λ l. cond (usable l) (Ok tt) (Err NotUsable)) (λ l. cond (usable l) (Ok tt) (Err NotUsable)) (Err LinkTooHigh) (λ inside. ap (λ u. cond u (Ok tt) (Err NotUsable)) (same inside)) in
+      answer-changed f n k (λ l. cond (usable l) (Ok tt) (Err NotUsable)) (λ l. cond (usable l) (Ok tt) (Err NotUsable)) (Err LinkTooHigh) (λ inside. ap (λ u. cond u (Ok tt) (Err NotUsable)) (same inside)) in
       let after : take-after (changed f n) k ≡ changed f (take-after n k) =
-          ap (λ a. cond (isOk a) (changed (only k (retaken (λ t. t + 1))) (changed f n)) (changed f n)) answer
-          ∙ ap (λ m. cond (isOk (take-answer n k)) m (changed f n)) (only-changed (λ t. t + 1) k n)
-          ∙ (elim (isOk (take-answer n k)) as (λ b. cond b (changed f (changed (only k (retaken (λ t. t + 1))) n)) (changed f n) ≡ changed f (cond b (changed (only k (retaken (λ t. t + 1))) n) n)) [ true ↦ refl | false ↦ refl ]) in
+      ap (λ a. cond (isOk a) (changed (only k (retaken (λ t. t + 1))) (changed f n)) (changed f n)) answer
+      ∙ ap (λ m. cond (isOk (take-answer n k)) m (changed f n)) (only-changed (λ t. t + 1) k n)
+      ∙ (elim (isOk (take-answer n k)) as (λ b. cond b (changed f (changed (only k (retaken (λ t. t + 1))) n)) (changed f n) ≡ changed f (cond b (changed (only k (retaken (λ t. t + 1))) n) n)) [ true ↦ refl | false ↦ refl ]) in
       (answer, after)
 
   -- a give that is passed down: answered alike, the layer shows what it left
   pub give-passed : ((j : ℕ) (l : Link) → f j l .taken ≡ l .taken) → (n : Net) (k : ℕ) → (give-answer (changed f n) k ≡ give-answer n k) × (give-after (changed f n) k ≡ changed f (give-after n k))
   give-passed same n k =
       let answer : give-answer (changed f n) k ≡ give-answer n k =
-          answer-changed f n k (λ l. cond (ltb 0 (l .taken)) (Ok tt) (Err NoneTaken)) (λ l. cond (ltb 0 (l .taken)) (Ok tt) (Err NoneTaken)) (Err LinkTooHigh) (λ inside. ap (λ t. cond (ltb 0 t) (Ok tt) (Err NoneTaken)) (same k (link-at n k))) in
+      answer-changed f n k (λ l. cond (ltb 0 (l .taken)) (Ok tt) (Err NoneTaken)) (λ l. cond (ltb 0 (l .taken)) (Ok tt) (Err NoneTaken)) (Err LinkTooHigh) (λ inside. ap (λ t. cond (ltb 0 t) (Ok tt) (Err NoneTaken)) (same k (link-at n k))) in
       let after : give-after (changed f n) k ≡ changed f (give-after n k) =
-          ap (λ a. cond (isOk a) (changed (only k (retaken (λ t. t - 1))) (changed f n)) (changed f n)) answer
-          ∙ ap (λ m. cond (isOk (give-answer n k)) m (changed f n)) (only-changed (λ t. t - 1) k n)
-          ∙ (elim (isOk (give-answer n k)) as (λ b. cond b (changed f (changed (only k (retaken (λ t. t - 1))) n)) (changed f n) ≡ changed f (cond b (changed (only k (retaken (λ t. t - 1))) n) n)) [ true ↦ refl | false ↦ refl ]) in
+      ap (λ a. cond (isOk a) (changed (only k (retaken (λ t. t - 1))) (changed f n)) (changed f n)) answer
+      ∙ ap (λ m. cond (isOk (give-answer n k)) m (changed f n)) (only-changed (λ t. t - 1) k n)
+      ∙ (elim (isOk (give-answer n k)) as (λ b. cond b (changed f (changed (only k (retaken (λ t. t - 1))) n)) (changed f n) ≡ changed f (cond b (changed (only k (retaken (λ t. t - 1))) n) n)) [ true ↦ refl | false ↦ refl ]) in
       (answer, after)
 
 -- what is told of a link, by a function of what was told
 pub told-with : {A B : Type 0} (f : Link → A) (h : A → B) (n : Net) (k : ℕ) (x : A) → Ok x ≡ told f n k → Ok (h x) ≡ told (λ l. h (f l)) n k
 told-with f h n k x e =
     (elim (ltb k (length (n .links))) as (λ t. Ok x ≡ cond t (Ok (f (link-at n k))) (Err LinkTooHigh) → Ok (h x) ≡ cond t (Ok (h (f (link-at n k)))) (Err LinkTooHigh)) [
-      true ↦ λ q. let same : x ≡ f (link-at n k) = cc in ap (λ y. Ok (h y)) same
-    | false ↦ λ q. let z : _≡_ {A = ℕ} 0 1 = cc in absurd (omega arith)
+      | true ↦ λ q. let same : x ≡ f (link-at n k) = cc in ap (λ y. Ok (h y)) same
+      | false ↦ λ q. let z : _≡_ {A = ℕ} 0 1 = cc in absurd (omega arith)
     ]) e
 
 -- where one question is refused, so is every other, alike
 pub told-refused : {A B : Type 0} (f : Link → A) (h : Link → B) (n : Net) (k : ℕ) (x : NetworkRefusal) → Err x ≡ told f n k → Err x ≡ told h n k
 told-refused f h n k x e =
     (elim (ltb k (length (n .links))) as (λ t. Err x ≡ cond t (Ok (f (link-at n k))) (Err LinkTooHigh) → Err x ≡ cond t (Ok (h (link-at n k))) (Err LinkTooHigh)) [
-      true ↦ λ q. let z : _≡_ {A = ℕ} 0 1 = cc in absurd (omega arith)
-    | false ↦ λ q. let same : x ≡ LinkTooHigh = cc in ap Err same
+      | true ↦ λ q. let z : _≡_ {A = ℕ} 0 1 = cc in absurd (omega arith)
+      | false ↦ λ q. let same : x ≡ LinkTooHigh = cc in ap Err same
     ]) e
 
 -- a link that is not dimmed is as usable as before

@@ -55,8 +55,8 @@ within sites l h =
     let both : (a b : Bool) → a ≡ true → b ≡ true → (a && b) ≡ true = and-from in
     both _ _
     (both _ _
-      (both _ _ (both _ _ (lt-ltb (l .start) sites (h .start-low)) (lt-ltb (l .end) sites (h .end-low))) (not-from-false (eqb (l .start) (l .end)) (ne-eqb (l .start) (l .end) (h .apart))))
-      (both _ _ (both _ _ (le-leb 1 (l .metres) (h .metres-low)) (le-leb (l .metres) 1000000 (h .metres-high))) (le-leb (l .poles) (l .metres) (h .poles-high))))
+    (both _ _ (both _ _ (lt-ltb (l .start) sites (h .start-low)) (lt-ltb (l .end) sites (h .end-low))) (not-from-false (eqb (l .start) (l .end)) (ne-eqb (l .start) (l .end) (h .apart))))
+    (both _ _ (both _ _ (le-leb 1 (l .metres) (h .metres-low)) (le-leb (l .metres) 1000000 (h .metres-high))) (le-leb (l .poles) (l .metres) (h .poles-high))))
     (both _ _ (both _ _ (le-leb 1 (l .channels) (h .channels-low)) (le-leb (l .channels) 255 (h .channels-high))) (le-leb (l .taken) (l .channels) (h .taken-high)))
 
 -- other channels taken, not more than there are, leave a link sound
@@ -64,9 +64,15 @@ pub sound-retaken : (f : ℕ → ℕ) (sites : ℕ) (l : Link) → link-sound si
 sound-retaken f sites l h fits =
     let t = limits sites l h in
     within sites (retaken f l) (record {
-      start-low = t .start-low; end-low = t .end-low; apart = t .apart;
-      metres-low = t .metres-low; metres-high = t .metres-high; poles-high = t .poles-high;
-      channels-low = t .channels-low; channels-high = t .channels-high; taken-high = fits;
+      start-low = t .start-low;
+      end-low = t .end-low;
+      apart = t .apart;
+      metres-low = t .metres-low;
+      metres-high = t .metres-high;
+      poles-high = t .poles-high;
+      channels-low = t .channels-low;
+      channels-high = t .channels-high;
+      taken-high = fits;
     })
 
 -- a dimmed link stays sound
@@ -74,9 +80,15 @@ pub sound-dimmed : (dark : Bool) (sites : ℕ) (l : Link) → link-sound sites l
 sound-dimmed dark sites l h =
     let t = limits sites l h in
     within sites (dimmed dark l) (record {
-      start-low = t .start-low; end-low = t .end-low; apart = t .apart;
-      metres-low = t .metres-low; metres-high = t .metres-high; poles-high = t .poles-high;
-      channels-low = t .channels-low; channels-high = t .channels-high; taken-high = t .taken-high;
+      start-low = t .start-low;
+      end-low = t .end-low;
+      apart = t .apart;
+      metres-low = t .metres-low;
+      metres-high = t .metres-high;
+      poles-high = t .poles-high;
+      channels-low = t .channels-low;
+      channels-high = t .channels-high;
+      taken-high = t .taken-high;
     })
 
 -- other metres, not fewer and at most 1,000,000, leave a link sound
@@ -86,9 +98,15 @@ sound-remeasured f sites l h more most =
     let low = t .metres-low in
     let poles = t .poles-high in
     within sites (remeasured f l) (record {
-      start-low = t .start-low; end-low = t .end-low; apart = t .apart;
-      metres-low = omega arith; metres-high = most; poles-high = omega arith;
-      channels-low = t .channels-low; channels-high = t .channels-high; taken-high = t .taken-high;
+      start-low = t .start-low;
+      end-low = t .end-low;
+      apart = t .apart;
+      metres-low = omega arith;
+      metres-high = most;
+      poles-high = omega arith;
+      channels-low = t .channels-low;
+      channels-high = t .channels-high;
+      taken-high = t .taken-high;
     })
 
 -- each link of a sound list is sound

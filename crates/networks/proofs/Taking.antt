@@ -23,8 +23,8 @@ use Rattle.networks.proofs.Numbering.{set-numbered, numbered-twice, numbered-s
 pub told-inside : (n : Net) (k : ℕ) (one : Link) → Ok one ≡ told (λ l. l) n k → (k < length (n .links)) × (one ≡ link-at n k)
 told-inside n k one h =
     (elim (ltb k (length (n .links))) as (λ t. ltb k (length (n .links)) ≡ t → Ok one ≡ cond t (Ok (link-at n k)) (Err LinkTooHigh) → (k < length (n .links)) × (one ≡ link-at n k)) [
-      true ↦ λ e q. (ltb-true k (length (n .links)) e, cc)
-    | false ↦ λ e q. let z : _≡_ {A = ℕ} 0 1 = cc in absurd (omega arith)
+      | true ↦ λ e q. (ltb-true k (length (n .links)) e, cc)
+      | false ↦ λ e q. let z : _≡_ {A = ℕ} 0 1 = cc in absurd (omega arith)
     ]) refl h
 
 -- a take of a usable link is accepted
@@ -52,12 +52,12 @@ pub written : (g : ℕ → ℕ) (n : Net) (k : ℕ) (one : Link) → k < length 
 written g n k one inside e =
     let from : 0 + k ≡ k = omega arith in
     let here : set (n .links) k (retaken g one) ≡ numbered (only k (retaken g)) 0 (n .links) =
-        ap (λ l. set (n .links) k (retaken g l)) e ∙ set-numbered 0 k (retaken g) (n .links) no-link inside ∙ ap (λ i. numbered (only i (retaken g)) 0 (n .links)) from in
+    ap (λ l. set (n .links) k (retaken g l)) e ∙ set-numbered 0 k (retaken g) (n .links) no-link inside ∙ ap (λ i. numbered (only i (retaken g)) 0 (n .links)) from in
     ap (λ ls. record { sites = n .sites; links = ls }) here
 
 -- whatever is taken, the network without its taken channels stays
 pub cleared-only : (g : ℕ → ℕ) (k : ℕ) (n : Net) → cleared (changed (only k (retaken g)) n) ≡ cleared n
 cleared-only g k n =
     let each : (j : ℕ) (l : Link) → retaken (λ t. 0) (only k (retaken g) j l) ≡ retaken (λ t. 0) l =
-        λ j l. elim (eqb j k) as (λ b. retaken (λ t. 0) (cond b (retaken g l) l) ≡ retaken (λ t. 0) l) [ true ↦ refl | false ↦ refl ] in
+    λ j l. elim (eqb j k) as (λ b. retaken (λ t. 0) (cond b (retaken g l) l) ≡ retaken (λ t. 0) l) [ true ↦ refl | false ↦ refl ] in
     ap (λ ls. record { sites = n .sites; links = ls }) (numbered-twice (λ j. retaken (λ t. 0)) (only k (retaken g)) 0 (n .links) ∙ numbered-same (λ j l. retaken (λ t. 0) (only k (retaken g) j l)) (λ j. retaken (λ t. 0)) each 0 (n .links))

@@ -1,9 +1,9 @@
-// Why a network cannot be made or grow.
+//! Why a network cannot be made or grow.
 ghost use mathlib.Core.Path.{_≡_};
 ghost use Rattle.networks.specs.Refusing.{build-refusal, build-number};
 use refusals::Refusal;
 
-// A number is outside its limits, or memory is wanting; the second has no number.
+/// A number is outside its limits, or memory is wanting; the second has no number.
 #[derive(Clone, Copy, PartialEq, Eq, Debug)]
 pub enum BuildRefusal {
     OutsideLimits,
@@ -11,7 +11,7 @@ pub enum BuildRefusal {
 }
 
 impl BuildRefusal {
-    // Its place in the list of all refusals, if it has one.
+    /// Its place in the list of all refusals, if it has one.
     pub fn refusal(self) -> Option<Refusal>
         ensures { λ r. ⌜ r ≡ build-refusal self ⌝ }
     {
@@ -21,7 +21,7 @@ impl BuildRefusal {
         }
     }
 
-    // Its number in that list; want of memory has none.
+    /// Its number in that list; want of memory has none.
     pub fn number(self) -> Option<u8>
         ensures { λ r. ⌜ r ≡ build-number self ⌝ }
     {

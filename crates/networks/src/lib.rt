@@ -1,4 +1,4 @@
-// Networks: what a network is, the trait that every network meets, and the network that owns its links.
+//! Networks: what a network is, the trait that every network meets, and the network that owns its links.
 pub mod building;
 pub mod model;
 pub mod network;

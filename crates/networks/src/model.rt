@@ -1,11 +1,11 @@
-// A link's numbers, and the refusals of a network.
+//! A link's numbers, and the refusals of a network.
 ghost use mathlib.Core.Path.{_≡_};
 ghost use Rattle.networks.specs.Meaning.{link-sound, usable};
 ghost use Rattle.networks.specs.Refusing.{refusal};
 ghost use Rattle.refusals.specs.Numbers.{number};
 use refusals::Refusal;
 
-// A link runs one way, from its start to its end. Of its metres some run on poles; of its channels some are taken; it is lit or dark.
+/// A link runs one way, from its start to its end. Of its metres some run on poles; of its channels some are taken; it is lit or dark.
 #[derive(Clone, Copy, PartialEq, Eq, Debug)]
 pub struct Link {
     pub start: u16,
@@ -18,17 +18,19 @@ pub struct Link {
 }
 
 impl Link {
-    // Whether every number is within its limits, in a network of so many sites.
+    /// Whether every number is within its limits, in a network of so many sites.
     pub fn is_sound(&self, sites: u16) -> bool
         ensures { λ r. ⌜ r ≡ link-sound sites (now (self .entry)) ⌝ }
     {
         let ends = (self.start < sites) & (self.end < sites) & (self.start != self.end);
         let lengths = (1 <= self.metres) & (self.metres <= 1_000_000) & (self.poles <= self.metres);
-        let channels = (1 <= self.channels) & (self.channels <= 255) & (self.taken <= self.channels);
+        let channels = (1 <= self.channels)
+            & (self.channels <= 255)
+            & (self.taken <= self.channels);
         ends & lengths & channels
     }
 
-    // Whether the link is lit and has a channel free.
+    /// Whether the link is lit and has a channel free.
     pub fn is_usable(&self) -> bool
         ensures { λ r. ⌜ r ≡ usable (now (self .entry)) ⌝ }
     {
@@ -36,7 +38,7 @@ impl Link {
     }
 }
 
-// Why a network does not do what it is asked.
+/// Why a network does not do what it is asked.
 #[derive(Clone, Copy, PartialEq, Eq, Debug)]
 pub enum NetworkRefusal {
     LinkTooHigh,
@@ -45,7 +47,7 @@ pub enum NetworkRefusal {
 }
 
 impl NetworkRefusal {
-    // Its place in the list of all refusals.
+    /// Its place in the list of all refusals.
     pub fn refusal(self) -> Refusal
         ensures { λ r. ⌜ r ≡ refusal self ⌝ }
     {
@@ -56,7 +58,7 @@ impl NetworkRefusal {
         }
     }
 
-    // Its number in that list.
+    /// Its number in that list.
     pub fn number(self) -> u8
         ensures { λ r. ⌜ r ≡ number (refusal self) ⌝ }
     {

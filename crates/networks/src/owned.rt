@@ -1,4 +1,4 @@
-// The network that owns its links, as a sheet or a street grid gives them.
+//! The network that owns its links, as a sheet or a street grid gives them.
 ghost use mathlib.Core.Path.{_≡_};
 ghost use mathlib.Core.Bool.{true};
 ghost use Prim.Native.Nat.{_≤_};

@@ -1,4 +1,4 @@
-// What the network that owns its links does: it is begun empty, grows link by link, and meets the trait.
+//! What the network that owns its links does: it is begun empty, grows link by link, and meets the trait.
 ghost use mathlib.Core.Path.{_≡_};
 ghost use mathlib.Core.Bool.{true};
 ghost use Rattle.std.specs.Results.{Cases, isOk};
@@ -6,18 +6,18 @@ ghost use Rattle.networks.specs.Meaning.{link-sound};
 ghost use Rattle.networks.specs.Changing.{cleared};
 ghost use Rattle.networks.specs.Owning.{owned-meaning, Begun, Added};
 ghost use Rattle.networks.specs.Telling.{told};
+use crate::building::BuildRefusal;
 use crate::model::Link;
 use crate::model::NetworkRefusal;
 use crate::network::Network;
 use crate::owned::OwnedNetwork;
-use crate::building::BuildRefusal;
 use std::alloc::Global;
 
 // The most links that a network has.
 const MOST_LINKS: usize = 2048;
 
 impl OwnedNetwork {
-    // A network of so many sites and no link yet.
+    /// A network of so many sites and no link yet.
     pub fn empty(heap: Global, sites: u16) -> Result<OwnedNetwork, BuildRefusal>
         ensures { λ r. ⌜ Begun sites r ⌝ }
     {
@@ -28,7 +28,7 @@ impl OwnedNetwork {
         Ok(OwnedNetwork { sites, links })
     }
 
-    // One link more, after the others.
+    /// One link more, after the others.
     pub fn add(&mut self, link: Link) -> Result<(), BuildRefusal>
         ensures { λ r. ⌜ Added (owned-meaning (now (self .entry))) link r (owned-meaning (now (self .exit))) ⌝ }
     {

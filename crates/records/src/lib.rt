@@ -1,4 +1,4 @@
-// Records of a byte format: two bytes of length, two of kind, then the payload.
+//! Records of a byte format: two bytes of length, two of kind, then the payload.
 ghost use mathlib.Core.Path.{_≡_};
 ghost use mathlib.Core.Bool.{true, cond};
 ghost use mathlib.Core.List.{_++_};
@@ -8,7 +8,7 @@ ghost use Rattle.std.specs.Of.Vec.{vec-items};
 ghost use Rattle.records.specs.Bytes.{le16, cut-short, First};
 ghost use Rattle.records.specs.Pushing.{Pushed};
 
-// The record that some bytes begin with, and the bytes after it.
+/// The record that some bytes begin with, and the bytes after it.
 #[derive(Clone, Copy)]
 pub struct Head<'a> {
     pub kind: u16,
@@ -23,7 +23,7 @@ fn number(low: u8, high: u8) -> u16
     u16::from_le_bytes([low, high])
 }
 
-// Takes the first record off some bytes; `None` where they hold no whole record.
+/// Takes the first record off some bytes; `None` where they hold no whole record.
 pub fn first_record<'a>(bytes: &'a [u8]) -> Option<Head<'a>>
     ensures { λ r. ⌜ BySome r (cut-short (now (bytes .entry)) ≡ true) (λ h. First (now (bytes .entry)) (h .kind) (now (h .payload)) (now (h .rest))) ⌝ }
 {
@@ -44,7 +44,7 @@ pub fn first_record<'a>(bytes: &'a [u8]) -> Option<Head<'a>>
     })
 }
 
-// Why a record is not written.
+/// Why a record is not written.
 #[derive(Clone, Copy, PartialEq, Eq, Debug)]
 pub enum WriteFault {
     TooLong,
@@ -67,7 +67,7 @@ fn head_bytes(length: u16, kind: u16) -> [u8; 4]
     [a, b, c, d]
 }
 
-// Appends a record whose payload comes in two parts, one after the other. What is refused leaves the bytes as they were.
+/// Appends a record whose payload comes in two parts, one after the other. What is refused leaves the bytes as they were.
 pub fn push_record(
     out: &mut Vec<u8>,
     kind: u16,

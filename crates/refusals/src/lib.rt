@@ -1,8 +1,8 @@
-// The refusals of the whole product: each with its number, the value it carries and its rule in words.
+//! The refusals of the whole product: each with its number, the value it carries and its rule in words.
 ghost use mathlib.Core.Path.{_≡_};
 ghost use Rattle.refusals.specs.Numbers.{number, value, rule};
 
-// A refusal, with the value it carries: the byte place of a record, a link, the two numbers of the hold that is handed back, or nothing.
+/// A refusal, with the value it carries: the byte place of a record, a link, the two numbers of the hold that is handed back, or nothing.
 #[derive(Clone, Copy)]
 pub enum Refusal {
     CutShort { place: usize },
@@ -26,7 +26,7 @@ pub enum Refusal {
     FieldOutsideLimits,
 }
 
-// What a refusal carries.
+/// What a refusal carries.
 #[derive(Clone, Copy)]
 pub enum Carried {
     Place(usize),
@@ -36,7 +36,7 @@ pub enum Carried {
 }
 
 impl Refusal {
-    // The refusal's number.
+    /// The refusal's number.
     pub fn number(self) -> u8
         ensures { λ r. ⌜ r ≡ number self ⌝ }
     {
@@ -57,13 +57,16 @@ impl Refusal {
             Refusal::NotCircuit => 14,
             Refusal::WrongRow => 15,
             Refusal::EightHeld => 16,
-            Refusal::NotHeld { board: _, circuit: _ } => 17,
+            Refusal::NotHeld {
+                board: _,
+                circuit: _,
+            } => 17,
             Refusal::BufferTooShort => 18,
             Refusal::FieldOutsideLimits => 19,
         }
     }
 
-    // The value that comes with it.
+    /// The value that comes with it.
     pub fn value(self) -> Carried
         ensures { λ r. ⌜ r ≡ value self ⌝ }
     {
@@ -79,16 +82,20 @@ impl Refusal {
         }
     }
 
-    // The rule that was broken, in words.
+    /// The rule that was broken, in words.
     pub fn rule(self) -> &'static str
         ensures { λ r. ⌜ now r ≡ rule self ⌝ }
     {
         match self {
-            Refusal::CutShort { place: _ } => "fewer than 4 bytes are left, or the payload is cut short",
-            Refusal::WrongShape { place: _ } => "the kind is unknown here, the payload's length is wrong for the kind, or bytes follow a certificate",
+            Refusal::CutShort { place: _ } =>
+                "fewer than 4 bytes are left, or the payload is cut short",
+            Refusal::WrongShape { place: _ } =>
+                "the kind is unknown here, the payload's length is wrong for the kind, or bytes follow a certificate",
             Refusal::OutOfOrder { place: _ } => "the record is out of order",
-            Refusal::OutsideSheetLimits { place: _ } => "a number, an end or a byte of a name is outside its limits",
-            Refusal::LinkCount { place: _ } => "there is a link more than the header says, or fewer at the sheet's end",
+            Refusal::OutsideSheetLimits { place: _ } =>
+                "a number, an end or a byte of a name is outside its limits",
+            Refusal::LinkCount { place: _ } =>
+                "there is a link more than the header says, or fewer at the sheet's end",
             Refusal::LinkTooHigh => "the link number is too high",
             Refusal::NotUsable => "the link is not usable: it is dark or has no channel free",
             Refusal::NoneTaken => "no channel of the link is taken",
@@ -100,7 +107,10 @@ impl Refusal {
             Refusal::NotCircuit => "a circuit is numbered 1 to 32",
             Refusal::WrongRow => "the circuit's row is not vacant, or not confirmed",
             Refusal::EightHeld => "eight circuits are held already",
-            Refusal::NotHeld { board: _, circuit: _ } => "the hold is of another board, or its row is not held",
+            Refusal::NotHeld {
+                board: _,
+                circuit: _,
+            } => "the hold is of another board, or its row is not held",
             Refusal::BufferTooShort => "the buffer is too short for this certificate",
             Refusal::FieldOutsideLimits => "a field is outside its limits",
         }

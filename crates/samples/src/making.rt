@@ -30,7 +30,7 @@ fn link(start: u16, end: u16, metres: u32, poles: u32, channels: u16) -> Link {
     }
 }
 
-// The exchange's header, which says seven links, its names, and its first links, as many as are asked for.
+/// The exchange's header, which says seven links, its names, and its first links, as many as are asked for.
 pub fn exchange(heap: Global, links: usize) -> Result<Vec<u8>, WriteFault> {
     let mut out = Vec::new(heap);
     push_header(&mut out, 6, 7)?;
@@ -56,7 +56,7 @@ fn push_long_names(out: &mut Vec<u8>) -> Result<(), WriteFault> {
     Ok(())
 }
 
-// 256 sites, a name of 32 bytes for each, and 2,048 links of the greatest numbers.
+/// 256 sites, a name of 32 bytes for each, and 2,048 links of the greatest numbers.
 pub fn largest(heap: Global) -> Result<Vec<u8>, WriteFault> {
     let mut out = Vec::new(heap);
     push_header(&mut out, 256, 2048)?;

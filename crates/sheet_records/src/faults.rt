@@ -1,10 +1,10 @@
-// Why bytes begin with no record of a sheet, with the place of the record that fails.
+//! Why bytes begin with no record of a sheet, with the place of the record that fails.
 ghost use mathlib.Core.Path.{_≡_};
 ghost use Rattle.refusals.specs.Numbers.{number};
 ghost use Rattle.sheet_records.specs.Faults.{record-refusal};
 use refusals::Refusal;
 
-// What the record reader refuses: a record that is cut short, and one of an unknown kind or the wrong length.
+/// What the record reader refuses: a record that is cut short, and one of an unknown kind or the wrong length.
 #[derive(Clone, Copy, PartialEq, Eq, Debug)]
 pub enum RecordFault {
     CutShort { place: usize },
@@ -12,7 +12,7 @@ pub enum RecordFault {
 }
 
 impl RecordFault {
-    // Its place in the list of all refusals.
+    /// Its place in the list of all refusals.
     pub fn refusal(self) -> Refusal
         ensures { λ r. ⌜ r ≡ record-refusal self ⌝ }
     {
@@ -22,7 +22,7 @@ impl RecordFault {
         }
     }
 
-    // Its number in that list.
+    /// Its number in that list.
     pub fn number(self) -> u8
         ensures { λ r. ⌜ r ≡ number (record-refusal self) ⌝ }
     {

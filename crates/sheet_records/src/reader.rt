@@ -1,4 +1,4 @@
-// The reader that takes record after record off a sheet.
+//! The reader that takes record after record off a sheet.
 ghost use mathlib.Core.Path.{_≡_};
 ghost use Prim.Native.Nat.{_≤_};
 ghost use lib.ListN.{length, drop};
@@ -8,7 +8,7 @@ use crate::record::Placed;
 use crate::record::record_of;
 use records::first_record;
 
-// A lent sheet and the place up to which it has been read.
+/// A lent sheet and the place up to which it has been read.
 #[derive(Drop)]
 pub struct RecordReader<'a> {
     sheet: &'a [u8],
@@ -17,7 +17,7 @@ pub struct RecordReader<'a> {
 }
 
 impl<'a> RecordReader<'a> {
-    // A reader at the start of a sheet.
+    /// A reader at the start of a sheet.
     pub fn new(sheet: &'a [u8]) -> RecordReader<'a>
         ensures sheet { λ r. ⌜ now (r .sheet) ≡ now (sheet .entry) ⌝ }
         ensures place { λ r. ⌜ r .place ≡ 0 ⌝ }
@@ -25,7 +25,7 @@ impl<'a> RecordReader<'a> {
         RecordReader { sheet, place: 0 }
     }
 
-    // The next record and its place, `None` where no byte is left. After a fault the reader stays where it is.
+    /// The next record and its place, `None` where no byte is left. After a fault the reader stays where it is.
     pub fn next(&mut self) -> Result<Option<Placed<'a>>, RecordFault>
         ensures next { λ r. ⌜ Next (drop (now (self .entry) .place) (now (now (self .entry) .sheet))) (now (self .entry) .place) r (now (self .exit) .place) ⌝ }
         ensures sheet { λ _. ⌜ now (now (self .exit) .sheet) ≡ now (now (self .entry) .sheet) ⌝ }

@@ -1,4 +1,4 @@
-// A record of a sheet, and how it is read from its kind and its payload.
+//! A record of a sheet, and how it is read from its kind and its payload.
 ghost use mathlib.Core.Path.{_≡_};
 ghost use mathlib.Core.Bool.{true, false};
 ghost use Prim.Native.Nat.{_+_, _≤_};
@@ -10,7 +10,7 @@ ghost use Rattle.sheet_format.specs.Items.{lit-link, shaped, item-of};
 ghost use Rattle.sheet_records.specs.Records.{item, Parsed};
 use networks::model::Link;
 
-// A record of a sheet. A name's bytes are borrowed from the sheet.
+/// A record of a sheet. A name's bytes are borrowed from the sheet.
 #[derive(Clone, Copy)]
 pub enum Record<'a> {
     Header { sites: u16, links: u16 },
@@ -18,7 +18,7 @@ pub enum Record<'a> {
     Link(Link),
 }
 
-// A record, and the place in the sheet where it begins.
+/// A record, and the place in the sheet where it begins.
 #[derive(Clone, Copy)]
 pub struct Placed<'a> {
     pub place: usize,

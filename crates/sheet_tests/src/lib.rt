@@ -1,4 +1,4 @@
-// Tests of sheets: every order of the checks, the limits, and a sheet that is written and read again.
+//! Tests of sheets: every order of the checks, the limits, and a sheet that is written and read again.
 #[cfg(test)]
 mod tests {
     use networks::model::Link;

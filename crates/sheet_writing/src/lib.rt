@@ -1,4 +1,4 @@
-// Writing a sheet, record by record or as a whole. No limits are asked, so that damaged sheets can be written too.
+//! Writing a sheet, record by record or as a whole. No limits are asked, so that damaged sheets can be written too.
 ghost use mathlib.Core.Path.{_≡_};
 ghost use mathlib.Core.Bool.{false};
 ghost use mathlib.Core.List.{_++_};
@@ -44,7 +44,7 @@ fn link_back(poles: u32, channels: u16) -> [u8; 6]
     [a, b, c, d, e, f]
 }
 
-// Appends a header's record.
+/// Appends a header's record.
 pub fn push_header(out: &mut Vec<u8>, sites: u16, links: u16) -> Result<(), WriteFault>
     ensures { λ r. ⌜ Appended (vec-items (now (out .entry))) (vec-items (now (out .exit))) (header sites links) 4 r ⌝ }
 {
@@ -52,7 +52,7 @@ pub fn push_header(out: &mut Vec<u8>, sites: u16, links: u16) -> Result<(), Writ
     push_record(out, 1, &payload, &[])
 }
 
-// Appends the record of a site's name; a name of more than 65,533 bytes does not fit its length and is refused.
+/// Appends the record of a site's name; a name of more than 65,533 bytes does not fit its length and is refused.
 pub fn push_name(out: &mut Vec<u8>, site: u16, name: &[u8]) -> Result<(), WriteFault>
     ensures { λ r. ⌜ Appended (vec-items (now (out .entry))) (vec-items (now (out .exit))) (name-item (record { site = site; name = now (name .entry) })) (2 + length (now (name .entry))) r ⌝ }
 {
@@ -60,7 +60,7 @@ pub fn push_name(out: &mut Vec<u8>, site: u16, name: &[u8]) -> Result<(), WriteF
     push_record(out, 2, &front, name)
 }
 
-// Appends a link's record. A sheet does not tell whether a link is lit and which channels are taken.
+/// Appends a link's record. A sheet does not tell whether a link is lit and which channels are taken.
 pub fn push_link(out: &mut Vec<u8>, link: Link) -> Result<(), WriteFault>
     ensures { λ r. ⌜ Appended (vec-items (now (out .entry))) (vec-items (now (out .exit))) (link-item link) 14 r ⌝ }
 {
@@ -69,7 +69,7 @@ pub fn push_link(out: &mut Vec<u8>, link: Link) -> Result<(), WriteFault>
     push_record(out, 3, &front, &back)
 }
 
-// A site and the name that it bears.
+/// A site and the name that it bears.
 #[derive(Clone, Copy)]
 pub struct SiteName<'a> {
     pub site: u16,
@@ -104,7 +104,7 @@ fn push_links(out: &mut Vec<u8>, links: &[Link]) -> Result<(), WriteFault>
     Ok(())
 }
 
-// The bytes of a sheet: its header, which counts the links, its names and its links.
+/// The bytes of a sheet: its header, which counts the links, its names and its links.
 pub fn write(
     heap: Global,
     sites: u16,

@@ -1,4 +1,4 @@
-// Why bytes are no sheet, with the place of the record that fails.
+//! Why bytes are no sheet, with the place of the record that fails.
 ghost use mathlib.Core.Path.{_≡_};
 ghost use Rattle.sheets.specs.Faults.{sheet-refusal, sheet-number};
 use refusals::Refusal;
@@ -6,7 +6,7 @@ use sheet_records::faults::RecordFault;
 use sheet_records::faults::RecordFaultDebug;
 use sheet_records::faults::RecordFaultPartialEq;
 
-// What the sheet reader refuses: a fault of a record, a broken rule of the sheet, or want of memory.
+/// What the sheet reader refuses: a fault of a record, a broken rule of the sheet, or want of memory.
 #[derive(Clone, Copy, PartialEq, Eq, Debug)]
 pub enum SheetFault {
     Record(RecordFault),
@@ -17,7 +17,7 @@ pub enum SheetFault {
 }
 
 impl SheetFault {
-    // Its place in the list of all refusals, if it has one.
+    /// Its place in the list of all refusals, if it has one.
     pub fn refusal(self) -> Option<Refusal>
         ensures { λ r. ⌜ r ≡ sheet-refusal self ⌝ }
     {
@@ -30,7 +30,7 @@ impl SheetFault {
         }
     }
 
-    // Its number in that list; want of memory has none.
+    /// Its number in that list; want of memory has none.
     pub fn number(self) -> Option<u8>
         ensures { λ r. ⌜ r ≡ sheet-number self ⌝ }
     {

@@ -1,4 +1,4 @@
-// What the records of a sheet, read one after the other, come to.
+//! What the records of a sheet, read one after the other, come to.
 ghost use mathlib.Core.Path.{_≡_};
 ghost use mathlib.Core.Bool.{_&&_};
 ghost use Prim.Native.Nat.{_≤_};
@@ -17,7 +17,7 @@ use sheet_records::record::Placed;
 use sheet_records::record::Record;
 use std::alloc::Global;
 
-// A sheet that was read: its network, and its sites' names as bytes borrowed from the sheet.
+/// A sheet that was read: its network, and its sites' names as bytes borrowed from the sheet.
 #[derive(Drop)]
 pub struct Sheet<'a> {
     pub network: OwnedNetwork,

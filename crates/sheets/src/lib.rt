@@ -1,4 +1,4 @@
-// Sheets: reading a network and its sites' names from bytes.
+//! Sheets: reading a network and its sites' names from bytes.
 pub mod faults;
 pub mod gathering;
 pub mod names;

@@ -1,4 +1,4 @@
-// The names of a sheet's sites, as bytes that are borrowed from it.
+//! The names of a sheet's sites, as bytes that are borrowed from it.
 ghost use mathlib.Core.Path.{_≡_};
 ghost use mathlib.Core.List.{[], _∷_, _++_};
 ghost use lib.Dec.{leb};
@@ -16,7 +16,7 @@ struct Entry<'a> {
     name: &'a [u8],
 }
 
-// The names of a sheet, in its order.
+/// The names of a sheet, in its order.
 #[derive(Drop)]
 pub struct Names<'a> {
     entries: Vec<Entry<'a>>,
@@ -54,7 +54,7 @@ impl<'a> Names<'a> {
         last.site < site
     }
 
-    // The name of a site, if the sheet gives one.
+    /// The name of a site, if the sheet gives one.
     pub fn name(&self, site: u16) -> Option<&'a [u8]>
         ensures { λ r. ⌜ BySome r (name-of (named (now (self .entry))) site ≡ None) (λ bytes. name-of (named (now (self .entry))) site ≡ Some (now bytes)) ⌝ }
     {

@@ -1,4 +1,4 @@
-// Reading a whole sheet.
+//! Reading a whole sheet.
 ghost use mathlib.Core.Path.{_≡_};
 ghost use Prim.Native.Nat.{_≤_};
 ghost use Rattle.sheets.specs.Taking.{gathered};
@@ -62,7 +62,7 @@ fn read_records<'a>(heap: Global, sheet: &'a [u8]) -> Result<Sheet<'a>, SheetFau
     }
 }
 
-// The network of a sheet and its sites' names, or the first fault and its place.
+/// The network of a sheet and its sites' names, or the first fault and its place.
 pub fn read<'a>(heap: Global, sheet: &'a [u8]) -> Result<Sheet<'a>, SheetFault>
     ensures means { λ r. ⌜ Reads (now (sheet .entry)) r ⌝ }
     ensures back { λ r. ⌜ ((f : Fields) → Lawful f → now (sheet .entry) ≡ written f → Gives f r) ⌝ }

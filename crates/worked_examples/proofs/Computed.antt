@@ -38,8 +38,31 @@ on-square n g = ap (λ m. answer length-ops (view length-ops m) 0 3) (same-grid 
 
 pub examples : All Holds table
 unfolding answer first-run second-run pair-read
-examples =
-    (refl, (refl, (refl, (refl, (refl, (refl, (on-square,
-      (record { before = unbegun; rest = []; lawful = tt; split = refl; at-place = refl; breaks = refl },
-      (record { before = unbegun; rest = bytes-of (header 257 0); lawful = tt; split = refl; at-place = refl; breaks = refl },
-      ((record { beginning = record { head = refl; names = tt; rising = tt; links = refl; unused = tt; number = omega arith }; complete = refl }, refl), tt))))))))))
+examples = (
+  refl,
+  (
+    refl,
+    (
+      refl,
+      (
+        refl,
+        (
+          refl,
+          (
+            refl,
+            (
+              on-square,
+              (
+                record { before = unbegun; rest = []; lawful = tt; split = refl; at-place = refl; breaks = refl },
+                (
+                  record { before = unbegun; rest = bytes-of (header 257 0); lawful = tt; split = refl; at-place = refl; breaks = refl },
+                  ((record { beginning = record { head = refl; names = tt; rising = tt; links = refl; unused = tt; number = omega arith }; complete = refl }, refl), tt),
+                ),
+              ),
+            ),
+          ),
+        ),
+      ),
+    ),
+  ),
+)

@@ -21,11 +21,11 @@ add-street-requires c κs =
     let inside : m + w < w * c .args .rows = column-inside plan m (c .loop-site-test .taken) in
     let wide = plan .few-columns in
     let links : length (owned-meaning (c .loop-site .network) .links) ≡ length before + 2 * m =
-        ap (λ n. length (n .links)) (c .loop-site .inv) ∙ length-append before (two-ways (λ i. i) w (c .args .metres) (c .args .channels) m) ∙ ap (λ k. length before + k) (two-ways-length (λ i. i) w (c .args .metres) (c .args .channels) m) in
+    ap (λ n. length (n .links)) (c .loop-site .inv) ∙ length-append before (two-ways (λ i. i) w (c .args .metres) (c .args .channels) m) ∙ ap (λ k. length before + k) (two-ways-length (λ i. i) w (c .args .metres) (c .args .channels) m) in
     let few = few-streets plan in
     let low : m < w * c .args .rows = omega arith in
     let sound : (a b : ℕ) → a < w * c .args .rows → b < w * c .args .rows → (a ≡ b → ⊥) → link-sound (c .loop-site .network .sites) (street a b (c .args .metres) (c .args .channels)) ≡ true =
-        λ a b ha hb apart. subst (λ s. link-sound s (street a b (c .args .metres) (c .args .channels)) ≡ true) (sym sites) (street-sound (w * c .args .rows) a b (c .args .metres) (c .args .channels) ha hb apart (plan .some-metres) (plan .most-metres) (plan .some-channels) (plan .most-channels)) in
+    λ a b ha hb apart. subst (λ s. link-sound s (street a b (c .args .metres) (c .args .channels)) ≡ true) (sym sites) (street-sound (w * c .args .rows) a b (c .args .metres) (c .args .channels) ha hb apart (plan .some-metres) (plan .most-metres) (plan .some-channels) (plan .most-channels)) in
     record {
       there = sound m (m + w) low inside (λ e. omega arith);
       back = sound (m + w) m inside low (λ e. omega arith);

@@ -22,7 +22,7 @@ add-street-requires c κs =
     let few = few-streets plan .0 in
     let low : row-site w m < w * c .args .rows = omega arith in
     let sound : (a b : ℕ) → a < w * c .args .rows → b < w * c .args .rows → (a ≡ b → ⊥) → link-sound (c .loop-m .network .sites) (street a b (c .args .metres) (c .args .channels)) ≡ true =
-        λ a b ha hb apart. subst (λ s. link-sound s (street a b (c .args .metres) (c .args .channels)) ≡ true) (sym sites) (street-sound (w * c .args .rows) a b (c .args .metres) (c .args .channels) ha hb apart (plan .some-metres) (plan .most-metres) (plan .some-channels) (plan .most-channels)) in
+    λ a b ha hb apart. subst (λ s. link-sound s (street a b (c .args .metres) (c .args .channels)) ≡ true) (sym sites) (street-sound (w * c .args .rows) a b (c .args .metres) (c .args .channels) ha hb apart (plan .some-metres) (plan .most-metres) (plan .some-channels) (plan .most-channels)) in
     record {
       there = sound (row-site w m) (row-site w m + 1) low inside (λ e. omega arith);
       back = sound (row-site w m + 1) (row-site w m) inside low (λ e. omega arith);
