@@ -1,0 +1,2 @@
+-- What the proofs of marks share.
+mod Tables

@@ -1,0 +1,3 @@
+-- Lemmas of the stages.
+pub mod Marking
+pub mod Considering

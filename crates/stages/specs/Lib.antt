@@ -1,0 +1,4 @@
+-- The definitions that the contracts of the stages cite.
+pub mod First
+pub mod Marks
+pub mod Second
