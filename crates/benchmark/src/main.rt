@@ -1,4 +1,6 @@
 //! The speed benchmark. Alone it surveys each network once and prints what the survey comes to; with a number it also repeats each survey so often and prints its time; with the word `write` and a folder it writes the sheets there.
+#![tactic(auto)]
+
 mod cases;
 mod making;
 mod numbers;

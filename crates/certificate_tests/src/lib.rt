@@ -1,4 +1,6 @@
 //! Tests of certificates: every truncation, every limit, the order of the checks, and a certificate that is written and read again.
+#![tactic(auto)]
+
 #[cfg(test)]
 mod tests {
     use certificates::certificate::Certificate;

@@ -1,4 +1,6 @@
 //! Certificates: what a customer keeps of a circuit, as one record of bytes.
+#![tactic(auto)]
+
 pub mod certificate;
 pub mod faults;
 pub mod fields;

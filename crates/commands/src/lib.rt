@@ -1,4 +1,6 @@
 //! The commands of the program: each does its work with the layers below and prints what came of it.
+#![tactic(auto)]
+
 pub mod day;
 pub mod help;
 pub mod refused;

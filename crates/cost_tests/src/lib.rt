@@ -1,3 +1,5 @@
 //! Tests of cost kinds on examples.
+#![tactic(auto)]
+
 #[cfg(test)]
 mod examples;

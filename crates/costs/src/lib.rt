@@ -1,4 +1,6 @@
 //! Cost kinds: what a fibre link costs, and how costs are added, negated and compared.
+#![tactic(auto)]
+
 mod kind;
 mod link;
 mod metres;

@@ -1,4 +1,6 @@
 //! Links that cut a site off: the first link that every route to it uses.
+#![tactic(auto)]
+
 mod pieces;
 mod searching;
 

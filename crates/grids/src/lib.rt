@@ -1,4 +1,6 @@
 //! Street grids: districts planned as columns and rows of sites, each street a link there and a link back.
+#![tactic(auto)]
+
 ghost use Rattle.std.specs.Prelude.{◌≡◌, ℕ, ◌+◌, ◌-◌, ◌*◌, ◌<◌, ◌≤◌, true, [], ◌∷◌, ◌++◌, length, MatchResult};
 ghost use Rattle.networks.specs.declared.building.BuildRefusal.TheVariants.{Memory};
 ghost use Rattle.networks.specs.Meaning.{link_sound};

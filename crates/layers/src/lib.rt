@@ -1,4 +1,6 @@
 //! Layers: networks that lie over any network and show its links changed. They pile in any order, to any depth.
+#![tactic(auto)]
+
 pub mod closed;
 pub mod closing;
 pub mod refusing;

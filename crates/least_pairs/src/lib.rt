@@ -1,4 +1,6 @@
 //! Least pairs: what routes and pairs of routes are, what the two runs of a planning give, and that no other pair costs less. Each theorem stands on the contract of a function, for every sound network and every cost kind.
+#![tactic(auto)]
+
 ghost use Rattle.least_pairs.specs.Theorems.{AnswersAreTrue, AnswersComeExactlyWhenTrue, RoutesVisitNoSiteTwice, AnswersAreRight, SurveysAreRight, SumsAreExact, RunsKeepTheirLaws};
 
 use costs::Cost;

@@ -1,4 +1,6 @@
 //! Makes the sample sheets. Alone it holds each file of this folder to what it makes and tells how it reads; with the word `write` it writes the files.
+#![tactic(auto)]
+
 use anyhow::anyhow;
 use commands::refused::print_fault;
 use commands::sheet::print_sheet;

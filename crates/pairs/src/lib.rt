@@ -1,4 +1,6 @@
 //! Reading a pair from the tables of both runs of a planning.
+#![tactic(auto)]
+
 mod reading;
 mod routes;
 mod tree;

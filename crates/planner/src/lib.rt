@@ -1,4 +1,6 @@
 //! The planner: quotes for a target and surveys of a root, over any network, any cost kind and any marks.
+#![tactic(auto)]
+
 mod both;
 pub mod cutting;
 pub mod quote;

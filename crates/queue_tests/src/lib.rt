@@ -1,4 +1,6 @@
 //! Tests of the queue on examples.
+#![tactic(auto)]
+
 #[cfg(test)]
 mod draining;
 #[cfg(test)]

@@ -1,4 +1,6 @@
 //! Records of a byte format: two bytes of length, two of kind, then the payload.
+#![tactic(auto)]
+
 ghost use Rattle.std.specs.Prelude.{◌≡◌, ◌+◌, ◌*◌, true, ◌++◌, if◌then◌else◌, MatchOption};
 ghost use Rattle.records.specs.Bytes.{le16, cut_short, First};
 ghost use Rattle.records.specs.Pushing.{Pushed};

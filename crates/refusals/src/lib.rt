@@ -1,4 +1,6 @@
 //! The refusals of the whole product: each with its number, the value it carries and its rule in words.
+#![tactic(auto)]
+
 ghost use Rattle.std.specs.Prelude.{◌≡◌};
 ghost use Rattle.refusals.specs.Numbers.{number, value, rule};
 

@@ -1,4 +1,6 @@
 //! The program: its words choose a command of the library.
+#![tactic(auto)]
+
 use anyhow::anyhow;
 use commands::day::sample_task;
 use commands::help::print_help;

@@ -1,4 +1,6 @@
 //! The links of a route over any network: a channel taken or given back on each, and their lengths added up.
+#![tactic(auto)]
+
 mod channels;
 mod lengths;
 

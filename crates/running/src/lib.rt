@@ -1,4 +1,6 @@
 //! The two runs of a planning over lent tables.
+#![tactic(auto)]
+
 mod both;
 mod running;
 

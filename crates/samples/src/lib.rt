@@ -1,4 +1,6 @@
 //! The sample sheets of the repository: a small named network, the largest sheet there can be, and damaged ones.
+#![tactic(auto)]
+
 mod making;
 
 use records::WriteFault;

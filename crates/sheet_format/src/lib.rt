@@ -1,4 +1,6 @@
 //! The format of a sheet: what its bytes mean, and what is proved of that.
+#![tactic(auto)]
+
 ghost use Rattle.sheet_format.specs.Theorems.{SingleValued, WrittenMeans, MeansWritten, Total};
 
 /// The same bytes never mean two things.

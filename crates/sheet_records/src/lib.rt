@@ -1,4 +1,6 @@
 //! The records of a sheet, read one after the other.
+#![tactic(auto)]
+
 pub mod faults;
 pub mod reader;
 pub mod record;

@@ -1,4 +1,6 @@
 //! Tests of sheets: every order of the checks, the limits, and a sheet that is written and read again.
+#![tactic(auto)]
+
 #[cfg(test)]
 mod tests {
     use networks::model::Link;

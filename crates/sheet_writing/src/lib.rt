@@ -1,4 +1,6 @@
 //! Writing a sheet, record by record or as a whole. No limits are asked, so that damaged sheets can be written too.
+#![tactic(auto)]
+
 ghost use Rattle.std.specs.Prelude.{◌≡◌, ◌+◌, false, ◌++◌, map, length};
 ghost use Rattle.records.specs.Bytes.{le16, le32};
 ghost use Rattle.sheet_format.specs.Items.{header, name as name_item, link as link_item};

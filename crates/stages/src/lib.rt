@@ -1,4 +1,6 @@
 //! What the two runs of a planning consider.
+#![tactic(auto)]
+
 mod first;
 mod pieces;
 mod second;

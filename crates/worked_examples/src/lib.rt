@@ -1,4 +1,6 @@
 //! The worked examples of plannings and sheets, as one theorem over one table.
+#![tactic(auto)]
+
 ghost use Rattle.std.specs.List.{AllByRecursion as All};
 ghost use Rattle.worked_examples.specs.Table.{Holds, table};
 
