@@ -6,8 +6,8 @@ use Rattle.grids.specs.Streets.{net, street, two_ways}
 use Rattle.grids.proofs.Pairs.{street_sound, two_ways_length, column_inside, few_streets, next_street}
 use Rattle.grids.proofs.add_columns.Goals as goal
 
-pub add-street-requires : goal.add-street-requires
-add-street-requires c =
+pub add_street-requires : goal.add_street-requires
+add_street-requires c =
     let plan = c.requires.plan in
     let w = c.args.columns in
     let m = c.loop-site.site in
@@ -28,4 +28,4 @@ add-street-requires c =
     }
 
 pub loop-site-preserved : goal.loop-site-preserved
-loop-site-preserved c = next_street (owned_meaning c.args.network.now).links (λ m. m) c.args.columns c.args.metres c.args.channels c.loop-site.site (c.args.columns * c.args.rows) (owned_meaning c.loop-site.network) (owned_meaning c.add-street.new.network) c.loop-site.invariant c.in-ok-add-street.ensures
+loop-site-preserved c = next_street (owned_meaning c.args.network.now).links (λ m. m) c.args.columns c.args.metres c.args.channels c.loop-site.site (c.args.columns * c.args.rows) (owned_meaning c.loop-site.network) (owned_meaning c.add_street.new.network) c.loop-site.invariant c.in_ok-add_street.ensures

@@ -6,8 +6,8 @@ use Rattle.grids.specs.Streets.{net, street, two_ways, row_site}
 use Rattle.grids.proofs.Pairs.{street_sound, two_ways_length, row_inside, few_streets, next_street}
 use Rattle.grids.proofs.add_rows.Goals as goal
 
-pub add-street-requires : goal.add-street-requires
-add-street-requires c =
+pub add_street-requires : goal.add_street-requires
+add_street-requires c =
     let plan = c.requires.plan in
     let w = c.args.columns in
     let m = c.loop-m.m in
@@ -25,4 +25,4 @@ add-street-requires c =
     }
 
 pub loop-m-preserved : goal.loop-m-preserved
-loop-m-preserved c = next_street [] (row_site c.args.columns) 1 c.args.metres c.args.channels c.loop-m.m (c.args.columns * c.args.rows) (owned_meaning c.loop-m.network) (owned_meaning c.add-street.new.network) c.loop-m.invariant c.in-ok-add-street.ensures
+loop-m-preserved c = next_street [] (row_site c.args.columns) 1 c.args.metres c.args.channels c.loop-m.m (c.args.columns * c.args.rows) (owned_meaning c.loop-m.network) (owned_meaning c.add_street.new.network) c.loop-m.invariant c.in_ok-add_street.ensures

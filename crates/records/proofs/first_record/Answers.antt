@@ -9,4 +9,4 @@ returns c =
     let bytes = c.args.bytes.now in
     let same : c.from-length.result ≡ u16_at bytes 0 = c.from-length.ensures ∙ c.number.ensures in
     let fits = whole bytes (let four : 4 ≤ length bytes = search rules in omega (arith, ap length (after_is bytes 0), length-drop 4 bytes)) in
-    first bytes c.type-inv.bytes fits _ _ _ c.number-kind.ensures (payload_is bytes _ same) (rest_is bytes _ same)
+    first bytes c.type_inv.bytes fits _ _ _ c.number-kind.ensures (payload_is bytes _ same) (rest_is bytes _ same)

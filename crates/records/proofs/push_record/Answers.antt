@@ -31,4 +31,4 @@ returns c =
 pub returns-then-append-3 : goal.returns-then-append-3
 returns-then-append-3 c =
     let size = length-append c.args.front.now c.args.back.now in
-    (omega arith, three (vec_items c.args.out.now) c.head-bytes-head.result c.args.front.now c.args.back.now _ _ _ c.if-append.ensures c.if-append-2.ensures c.if-append-3.ensures ∙ ap (λ l. vec_items c.args.out.now ++ (l ++ (c.args.front.now ++ c.args.back.now))) (c.head-bytes-head.ensures ∙ ap (λ n. le16 n ++ le16 c.args.kind) (sym size)))
+    (omega arith, three (vec_items c.args.out.now) c.head_bytes-head.result c.args.front.now c.args.back.now _ _ _ c.if-append.ensures c.if-append-2.ensures c.if-append-3.ensures ∙ ap (λ l. vec_items c.args.out.now ++ (l ++ (c.args.front.now ++ c.args.back.now))) (c.head_bytes-head.ensures ∙ ap (λ n. le16 n ++ le16 c.args.kind) (sym size)))

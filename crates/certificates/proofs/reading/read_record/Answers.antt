@@ -8,8 +8,8 @@ use Rattle.certificates.proofs.reading.read_record.Goals as goal
 
 pub returns-in-Ok-new : goal.returns-in-Ok-new
 returns-in-Ok-new c =
-    found c.args.bytes.now _ _ _ c.in-Some.ensures c.type-inv.bytes (sym c.if-not-has-right-shape.ensures) (held c.in-Ok-new.certificate) (c.in-Ok-new.ensures.1 ∙ c.in-Ok.ensures) c.in-Ok-new.certificate.limits
+    found c.args.bytes.now _ _ _ c.in-Some.ensures c.type_inv.bytes (sym c.if-not-has_right_shape.ensures) (held c.in-Ok-new.certificate) (c.in-Ok-new.ensures.1 ∙ c.in-Ok.ensures) c.in-Ok-new.certificate.limits
 
 pub returns-in-Err : goal.returns-in-Err
 returns-in-Err c =
-    outside c.args.bytes.now _ _ _ c.in-Some.ensures c.type-inv.bytes (sym c.if-not-has-right-shape.ensures) (fields_of c.in-Ok.fields) c.in-Ok.ensures (refused (fields_of c.in-Ok.fields) c.in-Err.field-0 c.in-Err.ensures)
+    outside c.args.bytes.now _ _ _ c.in-Some.ensures c.type_inv.bytes (sym c.if-not-has_right_shape.ensures) (fields_of c.in-Ok.fields) c.in-Ok.ensures (refused (fields_of c.in-Ok.fields) c.in-Err.field-0 c.in-Err.ensures)

@@ -4,4 +4,4 @@ use Rattle.certificates.proofs.Placings.{part_is}
 use Rattle.certificates.proofs.writing.put.Goals as goal
 
 pub returns : goal.returns
-returns c = part_is c.args.buffer.now c.args.place _ c.args.bytes.now _ (omega arith) c.copy-from-slice.ensures.after
+returns c = part_is c.args.buffer.now c.args.place _ c.args.bytes.now _ (omega arith) c.copy_from_slice.ensures.after

@@ -11,7 +11,7 @@ loop-at-init c = sym (placed_none c.args.buffer.now c.args.place)
 
 pub loop-at-preserved : goal.loop-at-preserved
 loop-at-preserved c =
-    c.put.ensures ∙ (λ i. placed (c.loop-at.invariant i) (c.args.place + 2 * c.loop-at.at) (c.link-bytes-bytes.ensures i))
+    c.put.ensures ∙ (λ i. placed (c.loop-at.invariant i) (c.args.place + 2 * c.loop-at.at) (c.link_bytes-bytes.ensures i))
     ∙ placed_link c.args.buffer.now c.args.place c.args.route.now c.loop-at.at (omega arith) (omega arith)
 
 pub returns : goal.returns

@@ -10,15 +10,15 @@ climb-init g c =
     let network = c.args.network.now in
     climbing_none g.met.C.Cost.lawful (g.N.Network.meaning network) (g.met.N.Network.sound network) c.args.root c.requires.root c.args.site c.requires.site.0 c.requires.site.1
 
-pub overflow-cast-link : goal.overflow-cast-link
-overflow-cast-link g c =
+pub overflow_cast-link : goal.overflow_cast-link
+overflow_cast-link g c =
     let network = c.args.network.now in
     let n = g.N.Network.meaning network in
     let sound = g.met.N.Network.sound network in
     omega (arith, top_low g.met.C.Cost.lawful n sound c.args.root c.requires.root c.args.site c.climb.top c.climb.invariant, sound.most_sites)
 
-pub offset-bounds-tree-top : goal.offset-bounds-tree-top
-offset-bounds-tree-top g c =
+pub offset_bounds-tree-top : goal.offset_bounds-tree-top
+offset_bounds-tree-top g c =
     let network = c.args.network.now in
     let n = g.N.Network.meaning network in
     let sound = g.met.N.Network.sound network in
@@ -30,8 +30,8 @@ bounds-tree-top g c =
     let n = g.N.Network.meaning network in
     omega (arith, top_low g.met.C.Cost.lawful n (g.met.N.Network.sound network) c.args.root c.requires.root c.args.site c.climb.top c.climb.invariant, c.requires.sizes.0)
 
-pub start-of-above-requires : goal.start-of-above-requires
-start-of-above-requires g c =
+pub start_of-above-requires : goal.start_of-above-requires
+start_of-above-requires g c =
     let network = c.args.network.now in
     link_low g.met.C.Cost.lawful (g.N.Network.meaning network) (g.met.N.Network.sound network) c.args.root c.requires.root c.args.site c.climb.top c.climb.invariant c.args.tree.now c.requires.sizes.0 c.requires.tree
 
@@ -40,14 +40,14 @@ bounds-entry-above g c =
     let network = c.args.network.now in
     omega (
       arith,
-      above_low g.met.C.Cost.lawful (g.N.Network.meaning network) (g.met.N.Network.sound network) c.args.root c.requires.root c.args.site c.climb.top c.climb.invariant c.args.tree.now c.requires.sizes.0 c.requires.tree c.start-of-above.result c.start-of-above.ensures,
+      above_low g.met.C.Cost.lawful (g.N.Network.meaning network) (g.met.N.Network.sound network) c.args.root c.requires.root c.args.site c.climb.top c.climb.invariant c.args.tree.now c.requires.sizes.0 c.requires.tree c.start_of-above.result c.start_of-above.ensures,
       c.requires.sizes.1,
     )
 
 pub climb-smaller : goal.climb-smaller
 climb-smaller g c =
     let network = c.args.network.now in
-    fewer g.met.C.Cost.lawful (g.N.Network.meaning network) (g.met.N.Network.sound network) c.args.root c.requires.root c.args.site c.climb.top c.climb.invariant c.args.tree.now c.requires.sizes.0 c.requires.tree c.start-of-above.result c.start-of-above.ensures
+    fewer g.met.C.Cost.lawful (g.N.Network.meaning network) (g.met.N.Network.sound network) c.args.root c.requires.root c.args.site c.climb.top c.climb.invariant c.args.tree.now c.requires.sizes.0 c.requires.tree c.start_of-above.result c.start_of-above.ensures
 
 pub climb-preserved : goal.climb-preserved
 climb-preserved g c =
@@ -55,10 +55,10 @@ climb-preserved g c =
     let network = c.args.network.now in
     let n = g.N.Network.meaning network in
     let sound = g.met.N.Network.sound network in
-    let above = c.start-of-above.result in
-    let low = above_low g.met.C.Cost.lawful n sound c.args.root c.requires.root c.args.site c.climb.top c.climb.invariant c.args.tree.now c.requires.sizes.0 c.requires.tree above c.start-of-above.ensures in
+    let above = c.start_of-above.result in
+    let low = above_low g.met.C.Cost.lawful n sound c.args.root c.requires.root c.args.site c.climb.top c.climb.invariant c.args.tree.now c.requires.sizes.0 c.requires.tree above c.start_of-above.ensures in
     let is : get_or c.args.entry.now above 0 ≡ 65535 = omega arith in
-    climbing_more g.met.C.Cost.lawful n sound c.args.root c.requires.root c.args.site c.climb.top c.climb.invariant c.args.tree.now c.requires.sizes.0 c.requires.tree above c.start-of-above.ensures
+    climbing_more g.met.C.Cost.lawful n sound c.args.root c.requires.root c.args.site c.climb.top c.climb.invariant c.args.tree.now c.requires.sizes.0 c.requires.tree above c.start_of-above.ensures
     (entry_none k c.requires.entry.0 c.args.entry.now c.requires.entry.1 above ((second_of k n c.args.root).labels above) (omega (arith, low, c.requires.sizes.1)) (c.requires.entry.2 above low) is)
 
 pub returns : goal.returns
@@ -67,7 +67,7 @@ returns g c =
     let network = c.args.network.now in
     let n = g.N.Network.meaning network in
     let sound = g.met.N.Network.sound network in
-    let above = c.start-of-above.result in
-    let low = above_low g.met.C.Cost.lawful n sound c.args.root c.requires.root c.args.site c.climb.top c.climb.invariant c.args.tree.now c.requires.sizes.0 c.requires.tree above c.start-of-above.ensures in
-    climbed g.met.C.Cost.lawful n sound c.args.root c.requires.root c.args.site c.climb.top c.climb.invariant c.args.tree.now c.requires.sizes.0 c.requires.tree above c.start-of-above.ensures
+    let above = c.start_of-above.result in
+    let low = above_low g.met.C.Cost.lawful n sound c.args.root c.requires.root c.args.site c.climb.top c.climb.invariant c.args.tree.now c.requires.sizes.0 c.requires.tree above c.start_of-above.ensures in
+    climbed g.met.C.Cost.lawful n sound c.args.root c.requires.root c.args.site c.climb.top c.climb.invariant c.args.tree.now c.requires.sizes.0 c.requires.tree above c.start_of-above.ensures
     (entry_link k c.requires.entry.0 c.args.entry.now c.requires.entry.1 above ((second_of k n c.args.root).labels above) (omega (arith, low, c.requires.sizes.1)) (c.requires.entry.2 above low) (λ e. omega (arith, e)))

@@ -19,16 +19,16 @@ mark-requires g c =
     let low : c.loop-site.site < n.sites = run.sites c.loop-site.site c.loop-site.invariant.0 in
     omega (arith, low, c.requires.room, c.loop-site.invariant.2, c.clear.ensures.room)
 
-pub overflow-cast-site : goal.overflow-cast-site
-overflow-cast-site g c =
+pub overflow_cast-site : goal.overflow_cast-site
+overflow_cast-site g c =
     let n = g.N.Network.meaning c.args.network.now in
     let sound = g.met.N.Network.sound c.args.network.now in
     let run = second_ran g.met.C.Cost.lawful n sound c.args.root c.requires.root in
     let low : c.loop-site.site < n.sites = run.sites c.loop-site.site c.loop-site.invariant.0 in
     omega (arith, low, sound.most_sites)
 
-pub offset-bounds-turns-site : goal.offset-bounds-turns-site
-offset-bounds-turns-site g c =
+pub offset_bounds-turns-site : goal.offset_bounds-turns-site
+offset_bounds-turns-site g c =
     let n = g.N.Network.meaning c.args.network.now in
     let sound = g.met.N.Network.sound c.args.network.now in
     let run = second_ran g.met.C.Cost.lawful n sound c.args.root c.requires.root in

@@ -23,7 +23,7 @@ bounds-route-at g c =
       arith,
       c.search.invariant.0,
       c.if-at-count.false,
-      low g.met.C.Cost.lawful (g.N.Network.meaning network) (g.met.N.Network.sound network) c.args.root c.args.target c.requires.root.0 c.requires.target c.tree-route-count.new.route c.tree-route-count.result c.tree-route-count.ensures.route (omega (arith, c.requires.routes.1, c.tree-route-count.auto.route)),
+      low g.met.C.Cost.lawful (g.N.Network.meaning network) (g.met.N.Network.sound network) c.args.root c.args.target c.requires.root.0 c.requires.target c.tree_route-count.new.route c.tree_route-count.result c.tree_route-count.ensures.route (omega (arith, c.requires.routes.1, c.tree_route-count.auto.route)),
     )
 
 pub search-preserved : goal.search-preserved
@@ -31,14 +31,14 @@ search-preserved g c =
     let k = g.C.Cost.ops in
     let network = c.args.network.now in
     let n = g.N.Network.meaning network in
-    let route = c.tree-route-count.new.route in
-    let count = c.tree-route-count.result in
-    let within = low g.met.C.Cost.lawful n (g.met.N.Network.sound network) c.args.root c.args.target c.requires.root.0 c.requires.target route count c.tree-route-count.ensures.route (omega (arith, c.requires.routes.1, c.tree-route-count.auto.route)) in
+    let route = c.tree_route-count.new.route in
+    let count = c.tree_route-count.result in
+    let within = low g.met.C.Cost.lawful n (g.met.N.Network.sound network) c.args.root c.args.target c.requires.root.0 c.requires.target route count c.tree_route-count.ensures.route (omega (arith, c.requires.routes.1, c.tree_route-count.auto.route)) in
     let lt : c.search.at < count = omega (arith, c.search.invariant.0, c.if-at-count.false) in
-    let reached : c.is-reached-without.result ≡ true = search rules in (
+    let reached : c.is_reached_without.result ≡ true = search rules in (
       omega (arith, lt),
       sym (next_cut k (view k n) c.args.root c.args.target route count within c.search.at lt
-          ∙ cond-true (labelled ((first_run k (without (get_or route c.search.at 0) (view k n)) c.args.root).labels c.args.target)) _ _ (sym c.is-reached-without.ensures ∙ reached))
+          ∙ cond-true (labelled ((first_run k (without (get_or route c.search.at 0) (view k n)) c.args.root).labels c.args.target)) _ _ (sym c.is_reached_without.ensures ∙ reached))
           ∙ c.search.invariant.1,
     )
 
@@ -47,25 +47,25 @@ returns-then-at-count g c =
     let k = g.C.Cost.ops in
     let network = c.args.network.now in
     let n = g.N.Network.meaning network in
-    let route = c.tree-route-count.new.route in
-    let count = c.tree-route-count.result in
-    let within = low g.met.C.Cost.lawful n (g.met.N.Network.sound network) c.args.root c.args.target c.requires.root.0 c.requires.target route count c.tree-route-count.ensures.route (omega (arith, c.requires.routes.1, c.tree-route-count.auto.route)) in
+    let route = c.tree_route-count.new.route in
+    let count = c.tree_route-count.result in
+    let within = low g.met.C.Cost.lawful n (g.met.N.Network.sound network) c.args.root c.args.target c.requires.root.0 c.requires.target route count c.tree_route-count.ensures.route (omega (arith, c.requires.routes.1, c.tree_route-count.auto.route)) in
     let at_end : c.search.at ≡ count = search rules in
     sym (ap (λ m. first_cut k (view k n) c.args.root c.args.target (drop m (take count route))) at_end ∙ end_cut k (view k n) c.args.root c.args.target route count within)
     ∙ c.search.invariant.1
-    ∙ ap (first_cut k (view k n) c.args.root c.args.target) c.tree-route-count.ensures.route
+    ∙ ap (first_cut k (view k n) c.args.root c.args.target) c.tree_route-count.ensures.route
 
-pub returns-then-not-is-reached-without : goal.returns-then-not-is-reached-without
-returns-then-not-is-reached-without g c =
+pub returns-then-not-is_reached_without : goal.returns-then-not-is_reached_without
+returns-then-not-is_reached_without g c =
     let k = g.C.Cost.ops in
     let network = c.args.network.now in
     let n = g.N.Network.meaning network in
-    let route = c.tree-route-count.new.route in
-    let count = c.tree-route-count.result in
-    let within = low g.met.C.Cost.lawful n (g.met.N.Network.sound network) c.args.root c.args.target c.requires.root.0 c.requires.target route count c.tree-route-count.ensures.route (omega (arith, c.requires.routes.1, c.tree-route-count.auto.route)) in
+    let route = c.tree_route-count.new.route in
+    let count = c.tree_route-count.result in
+    let within = low g.met.C.Cost.lawful n (g.met.N.Network.sound network) c.args.root c.args.target c.requires.root.0 c.requires.target route count c.tree_route-count.ensures.route (omega (arith, c.requires.routes.1, c.tree_route-count.auto.route)) in
     let lt : c.search.at < count = omega (arith, c.search.invariant.0, c.if-at-count.false) in
-    let cut : c.is-reached-without.result ≡ false = search rules in
+    let cut : c.is_reached_without.result ≡ false = search rules in
     sym (next_cut k (view k n) c.args.root c.args.target route count within c.search.at lt
-    ∙ cond-false (labelled ((first_run k (without (get_or route c.search.at 0) (view k n)) c.args.root).labels c.args.target)) _ _ (sym c.is-reached-without.ensures ∙ cut))
+    ∙ cond-false (labelled ((first_run k (without (get_or route c.search.at 0) (view k n)) c.args.root).labels c.args.target)) _ _ (sym c.is_reached_without.ensures ∙ cut))
     ∙ c.search.invariant.1
-    ∙ ap (first_cut k (view k n) c.args.root c.args.target) c.tree-route-count.ensures.route
+    ∙ ap (first_cut k (view k n) c.args.root c.args.target) c.tree_route-count.ensures.route

@@ -9,7 +9,7 @@ pub returns : goal.returns
 returns g c =
     let k = g.C.Cost.ops in
     let n = g.N.Network.meaning c.args.network.now in
-    let after = c.first-run-without-count.new in
+    let after = c.first_run_without-count.new in
     labelled_entry k after.distance after.tree after.parents c.args.target
     ((first_run k (without c.args.link (view k n)) c.args.root).labels c.args.target)
-    (omega (arith, c.requires.root.1, c.requires.room.1.0, c.first-run-without-count.auto.tree)) (c.first-run-without-count.ensures.labels c.args.target c.requires.root.1)
+    (omega (arith, c.requires.root.1, c.requires.room.1.0, c.first_run_without-count.auto.tree)) (c.first_run_without-count.ensures.labels c.args.target c.requires.root.1)

@@ -13,8 +13,8 @@ bounds-distance-at g c = omega (arith, c.requires.sites.1.0, c.requires.room.0)
 pub bounds-label-at : goal.bounds-label-at
 bounds-label-at g c = omega (arith, c.requires.sites.1.0, c.requires.room.1.0)
 
-pub read-pair-counts-requires : goal.read-pair-counts-requires
-read-pair-counts-requires g c =
+pub read_pair-counts-requires : goal.read_pair-counts-requires
+read_pair-counts-requires g c =
     let k = g.C.Cost.ops in
     let n = g.N.Network.meaning c.args.network.now in
     let first = (first_of k n c.args.root).labels in
@@ -55,6 +55,6 @@ returns g c =
       answer = pair_answered g.met.C.Cost.lawful n (g.met.N.Network.sound network) c.args.root target c.requires.sites.0 c.requires.sites.1.0 c.requires.sites.1.1 _ _
           (held_label k distance tree c.requires.first.0 target (first target) (c.requires.first.1 target c.requires.sites.1.0) c.requires.reached)
           (held_label k label entry turns target (second target) (c.requires.second target c.requires.sites.1.0) c.requires.target)
-          _ _ c.sum-total.result c.read-pair-counts.ensures.one c.read-pair-counts.ensures.two total_is;
-      rest = c.read-pair-counts.ensures.rest;
+          _ _ c.sum-total.result c.read_pair-counts.ensures.one c.read_pair-counts.ensures.two total_is;
+      rest = c.read_pair-counts.ensures.rest;
     }

@@ -3,8 +3,8 @@ use Rattle.std.proofs.Common.{length, arith}
 use Rattle.quotes.proofs.Testing.{two_apart, two_fit, four_fit}
 use Rattle.quotes.proofs.quoting.work_out.Goals as goal
 
-pub both-runs-count-requires : goal.both-runs-count-requires
-both-runs-count-requires g c =
+pub both_runs-count-requires : goal.both_runs-count-requires
+both_runs-count-requires g c =
     let sites = (g.N.Network.meaning c.args.network.now).sites in
     let a = four_fit sites (length c.args.distance.now) (length c.args.tree.now) (length c.args.parents.now) (length c.args.order.now) c.requires.run in
     let b = four_fit sites (length c.args.label.now) (length c.args.entry.now) (length c.args.turns.now) (length c.args.struck.now) c.requires.again in
@@ -16,13 +16,13 @@ both-runs-count-requires g c =
       marks = (d.0, d.1);
     }
 
-pub tell-quote-requires : goal.tell-quote-requires
-tell-quote-requires g c =
+pub tell_quote-requires : goal.tell_quote-requires
+tell_quote-requires g c =
     let sites = (g.N.Network.meaning c.args.network.now).sites in
     let a = four_fit sites (length c.args.distance.now) (length c.args.tree.now) (length c.args.parents.now) (length c.args.order.now) c.requires.run in
     let b = four_fit sites (length c.args.label.now) (length c.args.entry.now) (length c.args.turns.now) (length c.args.struck.now) c.requires.again in
     let d = four_fit sites (length c.args.piece.now) (length c.args.part.now) (length c.args.queue.now) (g.M.Marks.rooms c.args.marks.now) c.requires.others in
-    let runs = c.both-runs-count in
+    let runs = c.both_runs-count in
     record {
       sites = c.requires.sites;
       run = (omega (arith, a.0, runs.auto.distance), omega (arith, a.1, runs.auto.tree));

@@ -23,8 +23,8 @@ returns-then-tree-at g c =
       record { first = refl; second = refl },
     )
 
-pub cutting-link-link-requires : goal.cutting-link-link-requires
-cutting-link-link-requires g c =
+pub cutting_link-link-requires : goal.cutting_link-link-requires
+cutting_link-link-requires g c =
     let k = g.C.Cost.ops in
     let network = c.args.network.now in
     let n = g.N.Network.meaning network in
@@ -40,8 +40,8 @@ cutting-link-link-requires g c =
       target = entry_link k c.args.distance.now c.args.tree.now c.requires.first.0 target ((first_of k n root).labels target) low (c.requires.first.1 target apart.1) (λ e. omega (arith, e));
     }
 
-pub returns-then-entry-at : goal.returns-then-entry-at
-returns-then-entry-at g c =
+pub returns-then-entry_at : goal.returns-then-entry_at
+returns-then-entry_at g c =
     let k = g.C.Cost.ops in
     let network = c.args.network.now in
     let n = g.N.Network.meaning network in
@@ -57,12 +57,12 @@ returns-then-entry-at g c =
       cut_answered g.met.C.Cost.lawful n (g.met.N.Network.sound network) root target apart.0 apart.1 apart.2 _
           (held_label k c.args.distance.now c.args.tree.now c.requires.first.0 target ((first_of k n root).labels target) holds reached)
           (entry_none k c.args.label.now c.args.entry.now c.args.turns.now target ((second_of k n root).labels target) low_entry (c.requires.second target apart.1) is)
-          c.cutting-link-link.result c.cutting-link-link.ensures,
+          c.cutting_link-link.result c.cutting_link-link.ensures,
       record { first = refl; second = refl },
     )
 
-pub quote-pair-requires : goal.quote-pair-requires
-quote-pair-requires g c =
+pub quote_pair-requires : goal.quote_pair-requires
+quote_pair-requires g c =
     let k = g.C.Cost.ops in
     let network = c.args.network.now in
     let n = g.N.Network.meaning network in

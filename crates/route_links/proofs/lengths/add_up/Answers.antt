@@ -6,24 +6,24 @@ use Rattle.route_links.specs.Along.{summed, metres_along, poles_along}
 use Rattle.route_links.proofs.Summing.{summed_last, summed_part, metres_low}
 use Rattle.route_links.proofs.lengths.add_up.Goals as goal
 
-pub overflow-add-metres : goal.overflow-add-metres
-overflow-add-metres g c =
+pub overflow_add-metres : goal.overflow_add-metres
+overflow_add-metres g c =
     let n = g.N.Network.meaning c.args.network.now in
     omega (
       arith,
       summed_part (λ k. (link_at n k).metres) (λ k. (metres_low n (g.met.N.Network.sound c.args.network.now) k).0) c.args.route.now c.loop-at.at c.requires (omega arith),
       c.loop-at.invariant.0,
-      ap (λ (x : ℕ × ℕ). x.0) c.lengths-of-lengths.ensures,
+      ap (λ (x : ℕ × ℕ). x.0) c.lengths_of-lengths.ensures,
     )
 
-pub overflow-add-poles : goal.overflow-add-poles
-overflow-add-poles g c =
+pub overflow_add-poles : goal.overflow_add-poles
+overflow_add-poles g c =
     let n = g.N.Network.meaning c.args.network.now in
     omega (
       arith,
       summed_part (λ k. (link_at n k).poles) (λ k. (metres_low n (g.met.N.Network.sound c.args.network.now) k).1) c.args.route.now c.loop-at.at c.requires (omega arith),
       c.loop-at.invariant.1,
-      ap (λ (x : ℕ × ℕ). x.1) c.lengths-of-lengths.ensures,
+      ap (λ (x : ℕ × ℕ). x.1) c.lengths_of-lengths.ensures,
     )
 
 pub loop-at-preserved : goal.loop-at-preserved
@@ -32,8 +32,8 @@ loop-at-preserved g c =
     let route = c.args.route.now in
     let at = c.loop-at.at in
     let more = take_more route at 0 (omega arith) in (
-      omega (arith, c.loop-at.invariant.0, ap (λ (x : ℕ × ℕ). x.0) c.lengths-of-lengths.ensures, ap (metres_along n) more, summed_last (λ k. (link_at n k).metres) (take at route) (get_or route at 0)),
-      omega (arith, c.loop-at.invariant.1, ap (λ (x : ℕ × ℕ). x.1) c.lengths-of-lengths.ensures, ap (poles_along n) more, summed_last (λ k. (link_at n k).poles) (take at route) (get_or route at 0)),
+      omega (arith, c.loop-at.invariant.0, ap (λ (x : ℕ × ℕ). x.0) c.lengths_of-lengths.ensures, ap (metres_along n) more, summed_last (λ k. (link_at n k).metres) (take at route) (get_or route at 0)),
+      omega (arith, c.loop-at.invariant.1, ap (λ (x : ℕ × ℕ). x.1) c.lengths_of-lengths.ensures, ap (poles_along n) more, summed_last (λ k. (link_at n k).poles) (take at route) (get_or route at 0)),
     )
 
 pub returns : goal.returns

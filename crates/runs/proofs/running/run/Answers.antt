@@ -26,18 +26,18 @@ settle-requires g c =
     let now_state = read g.C.Cost.ops c.loop-next.costs c.loop-next.from c.loop-next.turns c.loop-next.order c.loop-next.count in
     let took = c.in-Some.ensures in
     let few : c.loop-next.count < (g.S.Stage.job c.loop-next.stage).sites =
-    fewer g.met.C.Cost.lawful (g.S.Stage.job c.loop-next.stage) c.args.root can now_state c.loop-next.queue c.loop-next.count c.loop-next.invariant.2 c.in-Some.next c.take-least.new.self took in
+    fewer g.met.C.Cost.lawful (g.S.Stage.job c.loop-next.stage) c.args.root can now_state c.loop-next.queue c.loop-next.count c.loop-next.invariant.2 c.in-Some.next c.take_least.new.self took in
     let sites_same : (g.S.Stage.job c.loop-next.stage).sites ≡ (g.S.Stage.job c.args.stage.now).sites = ap (λ j. j.sites) job-same in
     record {
       ready = c.loop-next.invariant.1;
-      turn = turn g.met.C.Cost.lawful (g.S.Stage.job c.loop-next.stage) c.args.root can now_state c.loop-next.queue c.loop-next.count c.loop-next.invariant.2 c.in-Some.next c.take-least.new.self took;
+      turn = turn g.met.C.Cost.lawful (g.S.Stage.job c.loop-next.stage) c.args.root can now_state c.loop-next.queue c.loop-next.count c.loop-next.invariant.2 c.in-Some.next c.take_least.new.self took;
       links = (c.requires.links.0 ∙ ap (λ j. j.links) (sym job-same), c.requires.links.1);
       room = (omega (arith, c.requires.room.0), (omega (arith, c.requires.room.1.0), (omega (arith, c.requires.room.1.1.0), omega (arith, few, c.requires.room.1.1.1.0))));
-      waiting = waits_on g.met.C.Cost.lawful (g.S.Stage.job c.loop-next.stage) c.args.root can now_state c.loop-next.queue c.loop-next.count c.loop-next.invariant.2 c.in-Some.next c.take-least.new.self took;
+      waiting = waits_on g.met.C.Cost.lawful (g.S.Stage.job c.loop-next.stage) c.args.root can now_state c.loop-next.queue c.loop-next.count c.loop-next.invariant.2 c.in-Some.next c.take_least.new.self took;
     }
 
-pub overflow-add-count : goal.overflow-add-count
-overflow-add-count g c =
+pub overflow_add-count : goal.overflow_add-count
+overflow_add-count g c =
     let few = fewer_same g.met.C.Cost.lawful c.loop-next.invariant.0 c.requires.runnable c.loop-next.invariant.2 c.in-Some.ensures in
     omega (arith, few, c.requires.sites)
 
@@ -55,7 +55,7 @@ loop-next-preserved g c =
       c.settle.ensures.job ∙ job-same,
       c.settle.ensures.ready,
       subst (λ j. Ongoing g.C.Cost.ops j c.args.root next-state c.settle.new.queue (c.loop-next.count + 1)) (sym c.settle.ensures.job)
-          (goes_on g.met.C.Cost.lawful (g.S.Stage.job c.loop-next.stage) c.args.root can now_state c.loop-next.queue c.loop-next.count c.loop-next.invariant.2 c.in-Some.next c.take-least.new.self c.in-Some.ensures next-state c.settle.ensures.state c.settle.new.queue c.settle.ensures.waiting),
+          (goes_on g.met.C.Cost.lawful (g.S.Stage.job c.loop-next.stage) c.args.root can now_state c.loop-next.queue c.loop-next.count c.loop-next.invariant.2 c.in-Some.next c.take_least.new.self c.in-Some.ensures next-state c.settle.ensures.state c.settle.new.queue c.settle.ensures.waiting),
     )
 
 pub returns : goal.returns
@@ -64,7 +64,7 @@ returns g c =
     let can = subst (λ j. Runnable g.C.Cost.ops j c.args.root) (sym job-same) c.requires.runnable in
     let now_state : State g.row.C.Denot = read g.C.Cost.ops c.loop-next.costs c.loop-next.from c.loop-next.turns c.loop-next.order c.loop-next.count in
     let end_is : now_state ≡ outcome g.C.Cost.ops (g.S.Stage.job c.args.stage.now) c.args.root =
-    ends g.met.C.Cost.lawful (g.S.Stage.job c.loop-next.stage) c.args.root can now_state c.loop-next.queue c.loop-next.count c.loop-next.invariant.2 c.in-default.ensures.0
+    ends g.met.C.Cost.lawful (g.S.Stage.job c.loop-next.stage) c.args.root can now_state c.loop-next.queue c.loop-next.count c.loop-next.invariant.2 c.in_default.ensures.0
     ∙ ap (λ j. outcome g.C.Cost.ops j c.args.root) job-same in
     record {
       job = job-same;

@@ -17,8 +17,8 @@ offer-requires g c =
       stands = (before, c.strike.ensures.stands before c.requires.ready c.requires.turn.left);
     }
 
-pub offer-label-requires : goal.offer-label-requires
-offer-label-requires g c =
+pub offer_label-requires : goal.offer_label-requires
+offer_label-requires g c =
     let before : List ℕ = reverse (take c.args.count c.args.order.now) in
     let job-same = c.strike.ensures.same in
     let turn = turn_same job-same (refl {a = before}) c.requires.turn in
@@ -57,12 +57,12 @@ loop-link-preserved g c =
     elim c.match-offer.branch [
       | goal.in-Some w ↦
           let found-is = w.in-Some.ensures settled_before ready in
-          let next = held g.C.Cost.ops w.offer-label.new.costs w.offer-label.new.links w.offer-label.new.turns in
-          let offering = subst (λ z. Offering g.C.Cost.ops w.in-Some.found.0 (record { cost = z; link = c.loop-link.link; turn = c.args.site }) labels next c.loop-link.queue w.offer-label.new.queue) w.sum-total.ensures w.offer-label.ensures in
+          let next = held g.C.Cost.ops w.offer_label.new.costs w.offer_label.new.links w.offer_label.new.turns in
+          let offering = subst (λ z. Offering g.C.Cost.ops w.in-Some.found.0 (record { cost = z; link = c.loop-link.link; turn = c.args.site }) labels next c.loop-link.queue w.offer_label.new.queue) w.sum-total.ensures w.offer_label.ensures in
           partway_same w.costs-is w.from-is w.turns-is w.queue-is
-          (partway_take g.met.C.Cost.lawful (g.S.Stage.job c.strike.new.self) start c.args.site c.args.cost settled_before turn c.loop-link.link below labels c.loop-link.queue c.loop-link.invariant w.in-Some.found.0 w.in-Some.found.1 (sym found-is) next w.offer-label.new.queue offering)
-      | goal.in-default w ↦
-          let none_is = w.in-default.ensures settled_before ready in
+          (partway_take g.met.C.Cost.lawful (g.S.Stage.job c.strike.new.self) start c.args.site c.args.cost settled_before turn c.loop-link.link below labels c.loop-link.queue c.loop-link.invariant w.in-Some.found.0 w.in-Some.found.1 (sym found-is) next w.offer_label.new.queue offering)
+      | goal.in_default w ↦
+          let none_is = w.in_default.ensures settled_before ready in
           partway_same w.costs-is w.from-is w.turns-is w.queue-is
           (partway_skip g.met.C.Cost.lawful (g.S.Stage.job c.strike.new.self) start c.args.site c.args.cost settled_before turn c.loop-link.link below labels c.loop-link.queue c.loop-link.invariant (sym none_is))
     ]

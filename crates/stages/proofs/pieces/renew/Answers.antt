@@ -11,7 +11,7 @@ loop-site-preserved c =
     let i = c.loop-site.site-index in
     let w : ℕ = get_or order i 0 in
     let h : i < length order = omega arith in
-    ap (λ m. set c.loop-site.marks w m) c.mark-again-mark.ensures
+    ap (λ m. set c.loop-site.marks w m) c.mark_again-mark.ensures
     ∙ ap (λ (t : List ℕ). set t w (new_mark parents c.args.root c.args.struck t w)) c.loop-site.invariant
     ∙ sym (ap (λ (T : List ℕ). renewed parents c.args.root c.args.struck T c.args.marks.now) (one_more order i h))
 

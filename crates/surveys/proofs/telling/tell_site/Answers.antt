@@ -27,8 +27,8 @@ returns-then-tree-at g c =
     no_route_is g.met.C.Cost.lawful n (g.met.N.Network.sound network) root site c.requires.sites.0 c.requires.sites.1 (λ e. omega (arith, e))
     (entry_none k c.args.distance.now c.args.tree.now c.requires.first.0 site ((first_of k n root).labels site) low (c.requires.first.1 site c.requires.sites.1) is)
 
-pub last-piece-link-link-requires : goal.last-piece-link-link-requires
-last-piece-link-link-requires g c =
+pub last_piece_link-link-requires : goal.last_piece_link-link-requires
+last_piece_link-link-requires g c =
     let k = g.C.Cost.ops in
     let network = c.args.network.now in
     let n = g.N.Network.meaning network in
@@ -48,8 +48,8 @@ last-piece-link-link-requires g c =
       );
     }
 
-pub returns-then-entry-at : goal.returns-then-entry-at
-returns-then-entry-at g c =
+pub returns-then-entry_at : goal.returns-then-entry_at
+returns-then-entry_at g c =
     let k = g.C.Cost.ops in
     let network = c.args.network.now in
     let n = g.N.Network.meaning network in
@@ -63,7 +63,7 @@ returns-then-entry-at g c =
     one_link_is g.met.C.Cost.lawful n (g.met.N.Network.sound network) root site c.requires.sites.0 c.requires.sites.1 (λ e. omega (arith, e)) _
     (held_label k c.args.distance.now c.args.tree.now c.requires.first.0 site ((first_of k n root).labels site) holds reached)
     (entry_none k c.args.label.now c.args.entry.now c.requires.second.0 site ((second_of k n root).labels site) low_entry (c.requires.second.1 site c.requires.sites.1) is)
-    c.last-piece-link-link.result c.last-piece-link-link.ensures
+    c.last_piece_link-link.result c.last_piece_link-link.ensures
 
 pub returns : goal.returns
 returns g c =

@@ -17,6 +17,6 @@ pub returns : goal.returns
 returns c =
     let f = held c.args.self.now in
     let size = whole_size f c.one-one.result.now c.two-two.result.now c.one-one.ensures c.two-two.ensures in
-    let done = all_placed f c.args.buffer.now _ _ _ c.front-of-front.result c.one-one.result.now c.two-two.result.now c.front-of-front.ensures c.one-one.ensures c.two-two.ensures (omega arith) c.put.ensures c.write-route.ensures c.write-route-2.ensures in
+    let done = all_placed f c.args.buffer.now _ _ _ c.front_of-front.result c.one-one.result.now c.two-two.result.now c.front_of-front.ensures c.one-one.ensures c.two-two.ensures (omega arith) c.put.ensures c.write_route.ensures c.write_route-2.ensures in
     let front = at_front c.args.buffer.now _ (certificate_bytes f) _ done size in
     record { wrote = front; only = λ g law same. told_apart g f (fitting g law) (fitting f c.args.self.now.limits) (sym same ∙ front.1) }

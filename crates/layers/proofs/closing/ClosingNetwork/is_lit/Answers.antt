@@ -5,16 +5,16 @@ use Rattle.networks.proofs.Layering.{told_changed, told_with, told_refused}
 use Rattle.layers.specs.Shown.{marks, closing}
 use Rattle.layers.proofs.closing.ClosingNetwork.is_lit.Goals as goal
 
-pub returns-in-err-lit : goal.returns-in-err-lit
-returns-in-err-lit g c =
+pub returns-in_err-lit : goal.returns-in_err-lit
+returns-in_err-lit g c =
     let self = c.args.self.now in
     let below = g.N.Network.meaning self.below in
-    let p = err_from_is_err_and c.from-residual.result c.from-residual.ensures.1 in
-    p.1 ∙ ap Err p.2 ∙ told_refused (λ l. l.lit) (λ l. l.lit && not (marks self c.args.link)) below c.args.link _ c.in-err-lit.ensures ∙ sym (told_changed (closing (marks self)) (λ l. l.lit) below c.args.link)
+    let p = err_from_is_err_and c.from_residual.result c.from_residual.ensures.1 in
+    p.1 ∙ ap Err p.2 ∙ told_refused (λ l. l.lit) (λ l. l.lit && not (marks self c.args.link)) below c.args.link _ c.in_err-lit.ensures ∙ sym (told_changed (closing (marks self)) (λ l. l.lit) below c.args.link)
 
 pub returns : goal.returns
 returns g c =
     let self = c.args.self.now in
     let below = g.N.Network.meaning self.below in
-    told_with (λ l. l.lit) (λ lit. lit && not (marks self c.args.link)) below c.args.link c.in-ok-lit.lit c.in-ok-lit.ensures
+    told_with (λ l. l.lit) (λ lit. lit && not (marks self c.args.link)) below c.args.link c.in_ok-lit.lit c.in_ok-lit.ensures
     ∙ sym (told_changed (closing (marks self)) (λ l. l.lit) below c.args.link)

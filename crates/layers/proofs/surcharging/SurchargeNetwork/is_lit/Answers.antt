@@ -5,4 +5,4 @@ use Rattle.layers.specs.Shown.{amounts, charging}
 use Rattle.layers.proofs.surcharging.SurchargeNetwork.is_lit.Goals as goal
 
 pub returns : goal.returns
-returns g c = c.is-lit.ensures ∙ sym (told_changed (charging (amounts c.args.self.now)) (λ l. l.lit) (g.N.Network.meaning c.args.self.now.below) c.args.link)
+returns g c = c.is_lit.ensures ∙ sym (told_changed (charging (amounts c.args.self.now)) (λ l. l.lit) (g.N.Network.meaning c.args.self.now.below) c.args.link)

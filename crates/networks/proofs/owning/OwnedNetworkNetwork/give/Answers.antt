@@ -9,11 +9,11 @@ use Rattle.networks.proofs.Soundness.{Limits, limits, sound_at, sound_set, sound
 use Rattle.networks.proofs.Taking.{told_inside, give_accepted, give_leaves, written, cleared_only}
 use Rattle.networks.proofs.owning.OwnedNetworkNetwork.give.Goals as goal
 
-pub invariant-of-self : goal.invariant-of-self
-invariant-of-self c =
+pub invariant_of-self : goal.invariant_of-self
+invariant_of-self c =
     let s = c.args.self.now in
-    let one = c.in-ok-one.one in
-    let at = told_inside (owned_meaning s) c.args.link one c.in-ok-one.ensures in
+    let one = c.in_ok-one.one in
+    let at = told_inside (owned_meaning s) c.args.link one c.in_ok-one.ensures in
     let sound : link_sound s.sites one ≡ true = subst (λ l. link_sound s.sites l ≡ true) (sym at.1) (sound_at s.sites (vec_items s.links) c.args.link no_link s.each_link at.0) in
     let most : one.taken ≤ one.channels = (limits s.sites one sound).taken_high in
     let fits : one.taken - 1 ≤ one.channels = omega arith in
@@ -23,8 +23,8 @@ invariant-of-self c =
 pub returns : goal.returns
 returns c =
     let n = owned_meaning c.args.self.now in
-    let one = c.in-ok-one.one in
-    let at = told_inside n c.args.link one c.in-ok-one.ensures in
+    let one = c.in_ok-one.one in
+    let at = told_inside n c.args.link one c.in_ok-one.ensures in
     let some : 0 < one.taken = omega arith in
     let there : 0 < (link_at n c.args.link).taken = subst (λ l. 0 < l.taken) at.1 some in
     let accepted = give_accepted n c.args.link at.0 there in

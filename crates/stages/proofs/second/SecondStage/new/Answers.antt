@@ -14,7 +14,7 @@ returns g c =
         pieces = c.requires.piece;
         parts = omega (arith, c.requires.part);
         struck = λ w h. absurd (both_ways false refl h);
-        part_marks = first_marks g.met.C.Cost.lawful (g.N.Network.meaning network) (g.met.N.Network.sound network) c.requires.left c.begin-marks.new.marks (λ w h. c.begin-marks.ensures.begun w (omega (arith, h)));
+        part_marks = first_marks g.met.C.Cost.lawful (g.N.Network.meaning network) (g.met.N.Network.sound network) c.requires.left c.begin_marks.new.marks (λ w h. c.begin_marks.ensures.begun w (omega (arith, h)));
         piece_marks = tt;
       };
     }
