@@ -15,4 +15,4 @@ invariant_of-self c =
     let each : all_sound s.sites (vec_items c.push.new.self) ≡ true =
     subst (λ ls. all_sound s.sites ls ≡ true) (sym c.push.ensures.items)
     (cond_both (is_ok c.push.result) (vec_items s.links ++ c.args.link ∷ []) (vec_items s.links) (λ ls. all_sound s.sites ls ≡ true) (λ _. sound_push s.sites (vec_items s.links) c.args.link s.each_link sound) (λ _. s.each_link)) in
-    (s.fewest_sites, (s.most_sites, (few, (each, tt))))
+    record { fewest_sites = s.fewest_sites; most_sites = s.most_sites; most_links = few; each_link = each }

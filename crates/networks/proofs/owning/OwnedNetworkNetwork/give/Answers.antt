@@ -18,7 +18,7 @@ invariant_of-self c =
     let most : one.taken ≤ one.channels = (limits s.sites one sound).taken_high in
     let fits : one.taken - 1 ≤ one.channels = omega arith in
     let each = sound_set s.sites (vec_items s.links) c.args.link (retaken (λ t. t - 1) one) s.each_link (sound_retaken (λ t. t - 1) s.sites one sound fits) in
-    (s.fewest_sites, (s.most_sites, (s.most_links, (each, tt))))
+    record { fewest_sites = s.fewest_sites; most_sites = s.most_sites; most_links = s.most_links; each_link = each }
 
 pub returns : goal.returns
 returns c =

@@ -18,7 +18,7 @@ invariant_of-self c =
     let free : one.taken < one.channels = ltb-true one.taken one.channels (and_parts one.lit (ltb one.taken one.channels) (sym c.if-not-is_usable.ensures)).1 in
     let fits : one.taken + 1 ≤ one.channels = omega arith in
     let each = sound_set s.sites (vec_items s.links) c.args.link (retaken (λ t. t + 1) one) s.each_link (sound_retaken (λ t. t + 1) s.sites one sound fits) in
-    (s.fewest_sites, (s.most_sites, (s.most_links, (each, tt))))
+    record { fewest_sites = s.fewest_sites; most_sites = s.most_sites; most_links = s.most_links; each_link = each }
 
 pub returns : goal.returns
 returns c =
