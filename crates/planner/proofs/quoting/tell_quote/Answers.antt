@@ -39,8 +39,8 @@ cutting_link-link-requires g c =
       target = entry_link k c.args.distance.now c.args.tree.now c.requires.first.0 target ((first_of k n root).labels target) low (c.requires.first.1 target apart.1) (λ e. omega (arith, e));
     }
 
-pub returns-then-entry_at : goal.returns-then-entry_at
-returns-then-entry_at g c =
+pub returns-then-entry-at : goal.returns-then-entry-at
+returns-then-entry-at g c =
     let k = g.C.Cost.ops in
     let network = c.args.network.now in
     let n = g.N.Network.meaning network in
