@@ -48,8 +48,8 @@ last_piece_link-link-requires g c =
       );
     }
 
-pub returns-then-entry_at : goal.returns-then-entry_at
-returns-then-entry_at g c =
+pub returns-then-entry-at : goal.returns-then-entry-at
+returns-then-entry-at g c =
     let k = g.C.Cost.ops in
     let network = c.args.network.now in
     let n = g.N.Network.meaning network in
