@@ -237,8 +237,8 @@ mod tests {
         ];
         assert_eq!(rt; numbers, [1, 0, 5]);
         assert_eq!(rt; [certificate.metres(), certificate.poles()], [800, 230]);
-        assert_eq!(rt; certificate.one(), &[0, 2, 5]);
-        assert_eq!(rt; certificate.two(), &[1, 4, 6]);
+        assert_eq!(rt; certificate.one(), [0u16, 2, 5].as_slice());
+        assert_eq!(rt; certificate.two(), [1u16, 4, 6].as_slice());
         Ok(())
     }
 
@@ -248,7 +248,7 @@ mod tests {
         let mut buffer = [9u8; 36];
         assert_eq!(rt; certificate.write(&mut buffer)?, 34);
         assert_eq!(rt; &buffer[0..34], &EXAMPLE[0..34]);
-        assert_eq!(rt; &buffer[34..36], &[9, 9]);
+        assert_eq!(rt; &buffer[34..36], [9u8, 9].as_slice());
         Ok(())
     }
 

@@ -307,7 +307,7 @@ mod tests {
         assert_eq!(rt; sheet.network.is_lit(0)?, true);
         assert!(rt; sheet.names.name(1).is_none());
         let last = sheet.names.name(2).ok_or("no name")?;
-        assert_eq!(rt; last, b"Cuxhaven");
+        assert_eq!(rt; last, b"Cuxhaven".as_slice());
         Ok(())
     }
 }
