@@ -22,13 +22,13 @@ done
 work=$(mktemp -d)
 trap 'rm -rf "$work"' EXIT
 
-rt check benchmark >"$work/check" 2>&1 || { cat "$work/check" && exit 1; }
+(cd crates/benchmark && rt run) >"$work/check" 2>&1 || { cat "$work/check" && exit 1; }
 # shellcheck disable=SC2086
 "${CXX:-g++}" -std=c++17 ${CXXFLAGS:--O2} -o "$work/survey" bench/survey.cpp
-target/bin/benchmark write "$work"
+crates/benchmark/out/benchmark write "$work"
 
 for round in $(seq "$rounds"); do
-    target/bin/benchmark "$repeats" >"$work/proved.$round"
+    crates/benchmark/out/benchmark "$repeats" >"$work/proved.$round"
     "$work/survey" "$repeats" "$work"/*.sheet >"$work/plain.$round"
     if ! diff <(grep checksum "$work/proved.$round" | sort) <(grep checksum "$work/plain.$round" | sort); then
         echo "the two programs do not find the same" >&2

@@ -1,9 +1,9 @@
 -- The bytes of a certificate give its fields back.
-use Rattle.std.proofs.Common.{◌≡◌, ℕ, ◌+◌, ◌*◌, ◌<◌, ◌≤◌, Bool, true, false, not, ◌&&◌, eqb, ltb, leb, List, [], ◌∷◌, ◌++◌, length, get_or, take, drop, sym, refl, ap, ◌∙◌, append-nil, arith}
+use Rattle.std.proofs.Common.{◌≡◌, ℕ, ◌+◌, ◌*◌, ◌<◌, ◌≤◌, true, false, not, ◌&&◌, eqb, ltb, leb, List, [], ◌∷◌, ◌++◌, length, drop, sym, ap, ◌∙◌, append-nil, arith}
 use Rattle.std.specs.List.{AllByRecursion as All}
 use Rattle.std.proofs.lemmas.List.{length-append, drop-drop, drop_at}
 use Rattle.std.proofs.lemmas.Bool.{and_from, and_parts, eq-eqb, le-leb, leb-true, ltb-true}
-use Rattle.records.specs.Bytes.{le16, le32, u16_at, u32_at, record_bytes, cut_short, kind_of, payload_of, rest_of}
+use Rattle.records.specs.Bytes.{cut_short, payload_of, rest_of}
 use Rattle.records.proofs.Numbers.{of_le16, of_le32}
 use Rattle.records.proofs.Round.{whole_again, kind_again, payload_again, rest_again}
 use Rattle.certificates.specs.Format.{Fields, route_bytes, payload, certificate_bytes, count_one, count_two, links_in, fields_in, right_length, right_shape}

@@ -1,11 +1,11 @@
 -- Bytes of the right shape are the bytes of the fields that they write.
-use Rattle.std.proofs.Common.{◌≡◌, ℕ, ◌+◌, ◌*◌, ◌<◌, ◌≤◌, Bool, true, false, ◌&&◌, eqb, leb, List, [], ◌∷◌, ◌++◌, length, get_or, take, drop, sym, refl, ap, ◌∙◌, append-nil, arith}
+use Rattle.std.proofs.Common.{◌≡◌, ℕ, ◌+◌, ◌*◌, ◌<◌, ◌≤◌, true, false, List, [], ◌++◌, length, drop, sym, ap, ◌∙◌, append-nil, arith}
 use Rattle.std.proofs.lemmas.List.{length-drop, drop-drop, drop_all, nil_from_length}
 use Rattle.std.proofs.lemmas.Bool.{and_parts, eqb-true, leb-true}
 use Rattle.records.specs.Bytes.{le16, le32, u16_at, u32_at, record_bytes, cut_short, kind_of, payload_of, rest_of}
 use Rattle.records.proofs.Cutting.{Bytes, bytes_drop, bytes_take, written_is, length_payload}
 use Rattle.records.proofs.Payloads.{two_at, four_at, u16_fits, u32_fits}
-use Rattle.certificates.specs.Format.{Fields, route_bytes, payload, certificate_bytes, count_one, count_two, links_in, fields_in, right_length, right_shape}
+use Rattle.certificates.specs.Format.{route_bytes, payload, certificate_bytes, count_one, count_two, fields_in, right_shape}
 use Rattle.certificates.specs.Limits.{Fitting}
 use Rattle.certificates.proofs.Routes.{length_links, links_fit, links_forth}
 

@@ -1,8 +1,8 @@
 -- What reading gives of bytes that were written.
-use Rattle.std.proofs.Common.{◌≡◌, ℕ, true, false, List, Ok, Err, Result, ap, arith}
+use Rattle.std.proofs.Common.{◌≡◌, ℕ, true, false, List, Ok, Err, Result, arith}
 use Rattle.certificates.specs.Format.{Fields, certificate_bytes}
 use Rattle.certificates.specs.Limits.{within}
-use Rattle.certificates.specs.Meaning.{Rule, whole_record, certificate_shape, field_limits, Outcome, certificate, fault}
+use Rattle.certificates.specs.Meaning.{Rule, whole_record, certificate_shape, field_limits, certificate, fault}
 use Rattle.certificates.specs.Calls.{held, Made, Reads, Gives}
 use Rattle.certificates.specs.declared.certificate.Certificate.{Certificate}
 use Rattle.certificates.specs.declared.faults.CertificateFault.{CertificateFault}

@@ -1,11 +1,11 @@
 -- All bytes mean one thing, and different fields have different bytes.
-use Rattle.std.proofs.Common.{◌≡◌, ℕ, ◌<◌, Bool, true, false, ◌&&◌, eqb, List, [], length, get_or, sym, refl, ap, ◌∙◌, arith}
+use Rattle.std.proofs.Common.{◌≡◌, ℕ, ◌<◌, true, false, ◌&&◌, eqb, List, length, get_or, sym, refl, ap, ◌∙◌}
 use Rattle.std.proofs.lemmas.Bool.{both_ways}
 use Rattle.records.specs.Bytes.{cut_short, payload_of, First}
 use Rattle.records.proofs.Cutting.{Bytes}
 use Rattle.certificates.specs.Format.{Fields, certificate_bytes, fields_in, right_length, right_shape}
 use Rattle.certificates.specs.Limits.{within, Fitting}
-use Rattle.certificates.specs.Meaning.{Rule, whole_record, certificate_shape, field_limits, Outcome, certificate, fault, Outside, Means}
+use Rattle.certificates.specs.Meaning.{whole_record, certificate_shape, field_limits, Outcome, certificate, fault, Outside, Means}
 use Rattle.certificates.proofs.Back.{whole_back, shape_back, fields_back, fitting}
 use Rattle.certificates.proofs.Forth.{bytes_are, fields_fit}
 

@@ -1,8 +1,7 @@
 -- Bytes put into a buffer one after the other.
-use Rattle.std.proofs.Common.{◌≡◌, ℕ, zero, suc, ◌+◌, ◌-◌, ◌*◌, ◌<◌, ◌≤◌, List, [], ◌∷◌, ◌++◌, length, get_or, take, drop, sym, refl, ap, ◌∙◌, append_assoc, append-nil, add-zero, add_assoc, zero-add, arith}
+use Rattle.std.proofs.Common.{◌≡◌, ℕ, ◌+◌, ◌*◌, ◌<◌, ◌≤◌, List, [], ◌∷◌, ◌++◌, length, get_or, take, drop, sym, ap, ◌∙◌, append_assoc, add-zero, add_assoc, zero-add, arith}
 use borrow.Rule.Slice.PartMut.{put_mid}
-use Rattle.std.specs.List.{flat_map}
-use Rattle.std.proofs.lemmas.List.{length-append, length-take-le, drop-drop, drop_at, take_at, take-append-drop, flat_map_more, take_more, take_all}
+use Rattle.std.proofs.lemmas.List.{length-append, length-take-le, drop-drop, drop_at, take_at, take-append-drop, flat_map_more, take_more}
 use Rattle.records.specs.Bytes.{le16, le32}
 use Rattle.certificates.specs.Format.{Fields, route_bytes, payload, certificate_bytes}
 use Rattle.certificates.specs.Placing.{placed, front_bytes}

@@ -1,6 +1,6 @@
 -- The limits of a certificate's fields.
-use Rattle.std.specs.Prelude.{◌≡◌, ℕ, ◌+◌, ◌*◌, ◌<◌, Bool, true, false, not, ◌&&◌, ◌||◌, List, [], ◌∷◌, ◌++◌, length, ◌==◌, nat_le, nat_lt}
-use Rattle.std.specs.List.{AllByRecursion as All}
+use Rattle.std.specs.Prelude.{ℕ, ◌+◌, ◌*◌, ◌<◌, Bool, true, false, not, ◌&&◌, ◌||◌, List, [], ◌∷◌, ◌++◌, length, ◌==◌, nat_le, nat_lt}
+use Rattle.std.specs.List.{AllByRecursion}
 use Rattle.certificates.specs.Format.{Fields}
 
 -- A circuit's number: 1 to 32.
@@ -53,6 +53,6 @@ pub record Fitting (f : Fields) : Type 0 where
   pub target : f.target < 65536
   pub metres : f.metres < 4294967296
   pub poles : f.poles < 4294967296
-  pub one : All (λ k. k < 65536) f.one
-  pub two : All (λ k. k < 65536) f.two
+  pub one : AllByRecursion (λ k. k < 65536) f.one
+  pub two : AllByRecursion (λ k. k < 65536) f.two
   pub size : 18 + 2 * (length f.one + length f.two) < 65536

@@ -1,5 +1,5 @@
 -- The solver of equations and comparisons, with its terms found by `search quoting`.
-use Rattle.std.proofs.Common.{◌≡◌, ℕ, zero, suc, T, List, [], ◌∷◌, sym, refl, ap, ◌∙◌}
+use Rattle.std.proofs.Common.{◌≡◌, ℕ, suc, T, List, ◌∷◌, sym, refl, ap, ◌∙◌}
 use Rattle.costs.specs.Costs.{Ops, Laws, Le, Lt}
 use Rattle.costs.proofs.Group.{Term, value, at, same, solve}
 use Rattle.costs.proofs.Group.Term.{var, none, ◌⊕◌, ⊖}

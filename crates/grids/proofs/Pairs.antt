@@ -1,18 +1,18 @@
 -- Streets as pairs of links: what is added, and what stands where.
-use Rattle.std.proofs.Common.{◌≡◌, ℕ, zero, suc, ◌+◌, ◌-◌, ◌*◌, ◌/◌, ◌%◌, ◌<◌, ◌≤◌, Bool, true, false, ◌&&◌, ltb, leb, List, [], ◌∷◌, ◌++◌, length, get_or, Ok, Err, Result, sym, refl, ap, ◌∙◌, subst, ⊎_elim, append_assoc, mod-lt, mul_comm, mul-le-mul, mul-one, mul-add, add-one, arith, length-append, get_or-append-add, lt-ltb, leb-true, MatchResult}
+use Rattle.std.proofs.Common.{◌≡◌, ℕ, zero, suc, ◌+◌, ◌-◌, ◌*◌, ◌/◌, ◌%◌, ◌<◌, ◌≤◌, true, ltb, List, [], ◌∷◌, ◌++◌, length, get_or, Ok, Err, Result, sym, refl, ap, ◌∙◌, ⊎_elim, append_assoc, mod-lt, mul_comm, mul-le-mul, mul-one, mul-add, add-one, arith, length-append, get_or-append-add, lt-ltb, MatchResult}
 use lib.Arith.{digits_lt}
 use lib.Seq.{get_or_at}
 use Rattle.std.proofs.lemmas.List.{get_or_append_left}
 use Rattle.std.proofs.lemmas.Nat.{div-add-mod', div_below}
 use borrow.Author.Tests.{both_ways}
-use Rattle.std.proofs.lemmas.Bool.{and_from, and_parts, cases_lt}
+use Rattle.std.proofs.lemmas.Bool.{and_from, cases_lt}
 use Rattle.networks.specs.declared.model.Link.{Link}
 use Rattle.networks.specs.declared.building.BuildRefusal.{BuildRefusal}
 use Rattle.networks.specs.declared.building.BuildRefusal.TheVariants.{OutsideLimits, Memory}
-use Rattle.networks.specs.Meaning.{Net, link_sound, link_at}
+use Rattle.networks.specs.Meaning.{Net, link_sound}
 use Rattle.networks.specs.Owning.{extended, has_room, Added}
-use Rattle.networks.proofs.Soundness.{Limits, within}
-use Rattle.grids.specs.Streets.{street, net, two_ways, row_site, grid_within, Plan}
+use Rattle.networks.proofs.Soundness.{within}
+use Rattle.grids.specs.Streets.{street, net, two_ways, row_site, Plan}
 
 -- a sound link has room where the links are few
 pub room : (n : Net) (l : Link) → length n.links < 2048 → link_sound n.sites l ≡ true → has_room n l ≡ true

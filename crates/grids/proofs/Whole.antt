@@ -1,10 +1,9 @@
 -- The whole grid: the list that is made is the grid, every link of it is a street's, and nothing else is.
-use Rattle.std.proofs.Common.{◌≡◌, ℕ, zero, suc, ◌+◌, ◌-◌, ◌*◌, ◌/◌, ◌%◌, ◌<◌, ◌≤◌, Bool, true, false, cond, ◌&&◌, eqb, ltb, leb, ◌⊎◌, List, [], ◌∷◌, ◌++◌, length, get_or, sym, refl, ap, ◌∙◌, subst, inl, inr, ⊎_elim, mod-lt, mul_assoc, mul_comm, mul-one, mul-add, arith, length-append, get_or-append-add, ext_get_or, eq-eqb, ne_eqb, leb-true}
+use Rattle.std.proofs.Common.{◌≡◌, ℕ, ◌+◌, ◌-◌, ◌*◌, ◌/◌, ◌%◌, ◌<◌, ◌≤◌, true, ◌&&◌, eqb, leb, ◌⊎◌, ◌++◌, length, get_or, sym, refl, ap, ◌∙◌, subst, inl, inr, ⊎_elim, mod-lt, mul_assoc, mul_comm, mul-one, mul-add, arith, length-append, get_or-append-add, ext_get_or, eq-eqb, ne_eqb, leb-true}
 use lib.Arith.{digits_lt, digits_div}
 use Rattle.std.proofs.lemmas.List.{get_or_append_left}
 use Rattle.std.proofs.lemmas.Nat.{div-add-mod', div_below}
 use Rattle.std.proofs.lemmas.Bool.{and_parts, cases_lt, cond-true, cond-false}
-use Rattle.networks.specs.declared.model.Link.{Link}
 use Rattle.networks.specs.Meaning.{Net, link_at, no_link}
 use Rattle.grids.specs.Streets.{street, net, two_ways, row_site, grid_within, BothWays, Grid, Plan, beside, turned, ReturnLinksStandBeside}
 use Rattle.grids.proofs.Pairs.{two_ways_length, two_ways_at}

@@ -1,11 +1,11 @@
 -- A layer with an empty table shows what lies below.
-use Rattle.std.proofs.Common.{◌≡◌, ℕ, suc, ◌+◌, ◌≤◌, min, Bool, true, false, not, ◌&&◌, List, [], ◌∷◌, sym, refl, ap, ◌∙◌, arith}
+use Rattle.std.proofs.Common.{◌≡◌, ℕ, suc, ◌+◌, ◌≤◌, min, Bool, true, false, not, ◌&&◌, List, [], ◌∷◌, refl, ap, ◌∙◌, arith}
 use Rattle.std.proofs.lemmas.Bool.{and_parts}
 use Rattle.networks.specs.declared.model.Link.{Link}
 use Rattle.networks.specs.Meaning.{Net, Sound, link_sound, all_sound}
-use Rattle.networks.specs.Changing.{numbered, dimmed, remeasured}
+use Rattle.networks.specs.Changing.{numbered, dimmed}
 use Rattle.networks.proofs.Numbering.{numbered_none}
-use Rattle.networks.proofs.Soundness.{Limits, limits}
+use Rattle.networks.proofs.Soundness.{limits}
 use Rattle.layers.specs.Shown.{closing, closed_over, charging, charged_over}
 
 -- a link that is not closed shows as it is

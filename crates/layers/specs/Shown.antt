@@ -1,5 +1,5 @@
 -- What each layer shows, as one function of its table and of the meaning below.
-use Rattle.std.specs.Prelude.{ℕ, ◌+◌, min, Bool, true, false, slice_index, slice_index_or}
+use Rattle.std.specs.Prelude.{ℕ, ◌+◌, min, Bool, false, slice_index, slice_index_or}
 use Rattle.networks.specs.declared.model.Link.{Link}
 use Rattle.networks.specs.Meaning.{Net}
 use Rattle.networks.specs.Changing.{changed, dimmed, remeasured}

@@ -1,14 +1,12 @@
 -- The answers are right: what they say is true, they come exactly when it is, and no route visits a site twice.
-use Rattle.std.proofs.Common.{◌≡◌, ℕ, ◌+◌, ◌<◌, ◌≤◌, Bool, true, false, cond, eqb, List, Some, None, Option, sym, refl, ap, ◌∙◌, subst, ⊎_elim, arith}
+use Rattle.std.proofs.Common.{◌≡◌, ℕ, ◌<◌, cond, eqb, Some, None, Option, sym, refl, ap, ◌∙◌, subst, ⊎_elim, arith}
 use Rattle.std.proofs.lemmas.Bool.{cases_eq, cond-true, cond-false, eq-eqb, ne_eqb}
 use Rattle.costs.specs.Costs.{Ops, Laws}
-use Rattle.costs.specs.Counting.{occurs}
 use Rattle.least_pairs.specs.Views.{View, without}
-use Rattle.least_pairs.specs.Routes.{Route, Pair, pair_cost, LeastPair, NoRoute, Shared, FirstShared}
 use Rattle.least_pairs.specs.Runs.{Label, State}
 use Rattle.least_pairs.specs.Laws.{RunLaws}
-use Rattle.least_pairs.specs.Plans.{first_job, second_job, first_run, second_run, Answer, no_route, one_link, pair, answered, answer, Entry, root_entry, total_entry, no_route_entry, one_link_entry, entry_of, survey}
-use Rattle.least_pairs.specs.Rightness.{Says, Exactly, NoSiteTwice, Right, RightEntry}
+use Rattle.least_pairs.specs.Plans.{first_job, second_job, first_run, second_run, Answer, no_route, one_link, pair, answered, answer, root_entry, entry_of, survey}
+use Rattle.least_pairs.specs.Rightness.{Says, Exactly, NoSiteTwice, RightEntry}
 use Rattle.least_pairs.specs.Theorems.{RightSurvey}
 use Rattle.least_pairs.proofs.Sight.{SoundView}
 use Rattle.least_pairs.proofs.Detours.{sound_without}

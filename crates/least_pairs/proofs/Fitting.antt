@@ -1,7 +1,7 @@
 -- The sums of a planning fit: distances, reduced costs, labels and totals.
-use Rattle.std.proofs.Common.{◌≡◌, ℕ, zero, suc, ◌+◌, ◌*◌, ◌<◌, ◌≤◌, Bool, true, false, cond, not, ◌&&◌, ◌||◌, eqb, List, [], ◌∷◌, ◌++◌, length, Some, None, Option, sym, refl, ap, ◌∙◌, subst, ⊎_elim, arith, length-append}
+use Rattle.std.proofs.Common.{◌≡◌, ℕ, suc, ◌+◌, ◌*◌, ◌<◌, ◌≤◌, true, false, cond, not, ◌&&◌, ◌||◌, eqb, List, ◌∷◌, length, Some, None, sym, refl, ap, ◌∙◌, subst, arith, length-append}
 use Rattle.std.proofs.lemmas.Bool.{and_parts, not-true, eqb-true, eqb-false}
-use Rattle.costs.specs.Costs.{Ops, Laws, Le, worked, negated, limit}
+use Rattle.costs.specs.Costs.{Ops, Laws, limit}
 use Rattle.costs.specs.Counting.{hit, occurs}
 use Rattle.costs.proofs.Working.{worked_exact, negated_exact}
 use Rattle.least_pairs.specs.Views.{View}
@@ -9,9 +9,9 @@ use Rattle.least_pairs.specs.Runs.{Label, Job, State, has}
 use Rattle.least_pairs.specs.Trees.{joined}
 use Rattle.least_pairs.specs.Laws.{Moment, Considered, RunLaws}
 use Rattle.least_pairs.specs.Plans.{first_job, second_job, reduced, cost_of, tree_link, up}
-use Rattle.least_pairs.specs.Sizing.{largest, Fits, ExactSum, SumsFit}
+use Rattle.least_pairs.specs.Sizing.{largest, ExactSum, SumsFit}
 use Rattle.least_pairs.proofs.Sight.{SoundView}
-use Rattle.least_pairs.proofs.Listed.{has_occurs, lacks_occurs, lacks_more, occurs_append, occurs_has, moment_of}
+use Rattle.least_pairs.proofs.Listed.{lacks_occurs, lacks_more, occurs_append, occurs_has, moment_of}
 use Rattle.least_pairs.proofs.Moments.{few}
 use Rattle.least_pairs.proofs.Pieces.{joined_free, joined_sym}
 use Rattle.least_pairs.proofs.Sizes.{label_size}

@@ -1,7 +1,7 @@
 -- Both runs of a planning are sound jobs, so both keep the laws of a finished run.
-use Rattle.std.proofs.Common.{◌≡◌, ℕ, ◌<◌, Bool, true, false, not, ◌&&◌, ◌||◌, eqb, List, ◌∷◌, sym, refl, ap, ◌∙◌, subst}
+use Rattle.std.proofs.Common.{◌≡◌, ℕ, ◌<◌, true, not, ◌&&◌, ◌||◌, eqb, List, ◌∷◌}
 use Rattle.std.proofs.lemmas.Bool.{and_parts}
-use Rattle.costs.specs.Costs.{Ops, Laws, Le}
+use Rattle.costs.specs.Costs.{Ops, Laws}
 use Rattle.least_pairs.specs.Views.{View}
 use Rattle.least_pairs.specs.Runs.{State, has}
 use Rattle.least_pairs.specs.Trees.{joined}

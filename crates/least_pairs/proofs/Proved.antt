@@ -1,9 +1,7 @@
 -- The theorems, as they are stated.
-use Rattle.std.proofs.Common.{◌≡◌, ℕ, ◌<◌, sym, refl}
 use Rattle.costs.specs.Costs.{Ops, Laws}
-use Rattle.networks.specs.Meaning.{Net, Sound}
-use Rattle.least_pairs.specs.Views.{View, view}
-use Rattle.least_pairs.specs.Plans.{first_run, second_run, answer}
+use Rattle.least_pairs.specs.Views.{view}
+use Rattle.least_pairs.specs.Plans.{first_run, answer}
 use Rattle.least_pairs.specs.Theorems.{AnswersAreTrue, AnswersComeExactlyWhenTrue, RoutesVisitNoSiteTwice, AnswersAreRight, SurveysAreRight, SumsAreExact, RunsKeepTheirLaws}
 use Rattle.least_pairs.proofs.Seen.{view_sound, cost_size}
 use Rattle.least_pairs.proofs.Jobs.{first_laws, second_laws, first_determined, second_determined}

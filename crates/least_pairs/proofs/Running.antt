@@ -1,10 +1,10 @@
 -- What holds at every moment of a run.
-use Rattle.std.proofs.Common.{◌≡◌, ℕ, zero, ◌<◌, ◌≤◌, Bool, true, false, cond, eqb, ◌⊎◌, List, [], ◌∷◌, Some, Option, sym, refl, ap, ◌∙◌, subst, inl, inr, arith}
+use Rattle.std.proofs.Common.{◌≡◌, ℕ, ◌<◌, ◌≤◌, Bool, true, false, cond, eqb, ◌⊎◌, List, [], ◌∷◌, Some, Option, sym, refl, ap, ◌∙◌, subst, inl, inr, arith}
 use Rattle.std.proofs.lemmas.Bool.{both_ways, ne_eqb, cases_Bool, cases_eq, or_parts}
 use Rattle.costs.specs.Costs.{Ops, Laws, Le, Lt}
 use Rattle.costs.specs.Counting.{hit, occurs}
 use Rattle.costs.proofs.Order.{lt_le, lt_le_trans, le_trans, lt_self, le_same, le_antisym, le_plus_right, plus_least}
-use Rattle.least_pairs.specs.Runs.{Label, Job, State, has, spread, least}
+use Rattle.least_pairs.specs.Runs.{Label, Job, State, has, spread}
 use Rattle.least_pairs.specs.Laws.{Moment, Considered}
 use Rattle.least_pairs.proofs.Moments.{lacks_occurs, has_here, has_there, has_cases, moment_has, moment_before, moment_more, moment_newest, moment_cases}
 use Rattle.least_pairs.proofs.Spreading.{given, Kept, Renewed, spreads, stays}

@@ -1,14 +1,13 @@
 -- The view of a sound network by a lawful cost kind is sound.
-use Rattle.std.proofs.Common.{◌≡◌, ℕ, ◌<◌, ◌≤◌, true, length, get_or, sym, refl, ap, ◌∙◌, subst, ⊎_elim, arith}
+use Rattle.std.proofs.Common.{◌≡◌, ℕ, ◌<◌, ◌≤◌, true, length, sym, ap, ◌∙◌, ⊎_elim}
 use Rattle.std.proofs.lemmas.List.{get_or_past}
 use Rattle.std.proofs.lemmas.Bool.{cases_lt, false≢true}
-use Rattle.costs.specs.declared.link.Lengths.{Lengths}
-use Rattle.costs.specs.Costs.{Ops, Laws, Le}
+use Rattle.costs.specs.Costs.{Ops, Laws}
 use Rattle.costs.specs.Links.{Within}
 use Rattle.networks.specs.declared.model.Link.{Link}
-use Rattle.networks.specs.Meaning.{Net, Sound, link_at, link_sound, usable, no_link}
+use Rattle.networks.specs.Meaning.{Net, Sound, link_at, usable, no_link}
 use Rattle.networks.proofs.Soundness.{Limits, limits, sound_at}
-use Rattle.least_pairs.specs.Views.{View, view}
+use Rattle.least_pairs.specs.Views.{view}
 use Rattle.least_pairs.proofs.Sight.{SoundView}
 
 -- a usable link of a network is one of its links

@@ -1,8 +1,7 @@
 -- Sizes: what the runs offer stays far below the limit of exact sums.
-use Rattle.std.proofs.Common.{◌≡◌, ℕ, zero, suc, ◌+◌, ◌*◌, ◌<◌, ◌≤◌, Bool, true, false, not, ◌&&◌, ◌||◌, eqb, List, [], ◌∷◌, ◌++◌, length, Some, None, Option, sym, refl, ap, ◌∙◌, subst, ⊎_elim, append_assoc, mul-le-mul_right, add-mul, one-mul, arith, length-append}
+use Rattle.std.proofs.Common.{◌≡◌, ℕ, zero, suc, ◌+◌, ◌*◌, ◌≤◌, true, List, ◌∷◌, ◌++◌, length, Some, sym, ap, ◌∙◌, subst, ⊎_elim, append_assoc, mul-le-mul_right, add-mul, one-mul, arith, length-append}
 use Rattle.std.proofs.lemmas.Bool.{cases_eq}
 use Rattle.costs.specs.Costs.{Ops, Laws}
-use Rattle.costs.specs.Counting.{occurs}
 use Rattle.least_pairs.specs.Runs.{Label, Job, State, has}
 use Rattle.least_pairs.specs.Laws.{Moment, Considered, RunLaws}
 use Rattle.least_pairs.proofs.Listed.{has_parts}

@@ -5,7 +5,7 @@ use Rattle.costs.specs.Costs.{Ops}
 use Rattle.costs.specs.Counting.{hit, occurs}
 use Rattle.costs.proofs.Counted.{hit_self}
 use Rattle.least_pairs.specs.Runs.{Label, Job, State, has}
-use Rattle.least_pairs.specs.Trees.{turn_of, parent, above, later}
+use Rattle.least_pairs.specs.Trees.{turn_of, parent, above}
 use Rattle.least_pairs.specs.Plans.{up}
 use Rattle.least_pairs.specs.Laws.{Moment, RunLaws}
 use Rattle.least_pairs.proofs.Listed.{has_head, has_tail, has_cases, lacks_tail, lacks_head, has_occurs, occurs_has, occurs_lacks, occurs_append, has_right, moment_of}

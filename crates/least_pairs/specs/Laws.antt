@@ -2,7 +2,7 @@
 use Rattle.std.specs.Prelude.{◌≡◌, ℕ, ◌<◌, ◌≤◌, true, ◌⊎◌, List, [], ◌∷◌, ◌++◌, Some, ◌≢◌}
 use Rattle.costs.specs.Costs.{Ops, Le}
 use Rattle.costs.specs.Counting.{occurs}
-use Rattle.least_pairs.specs.Runs.{Label, Job, State, has, outcome}
+use Rattle.least_pairs.specs.Runs.{Label, Job, State, has}
 
 -- a site was settled when just these had been, the newest first
 pub record Moment (order : List ℕ) (y : ℕ) (before : List ℕ) : Type 0 where

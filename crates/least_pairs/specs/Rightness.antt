@@ -1,6 +1,6 @@
 -- What a right answer is, in terms of all routes and all pairs of routes.
 use Rattle.std.specs.Prelude.{◌≡◌, ℕ, ◌<◌, ◌≤◌, List, length}
-use Rattle.costs.specs.Costs.{Ops, Le}
+use Rattle.costs.specs.Costs.{Ops}
 use Rattle.least_pairs.specs.Views.{View}
 use Rattle.least_pairs.specs.Routes.{Route, Pair, pair_cost, LeastPair, NoRoute, Shared, FirstShared, Simple}
 use Rattle.least_pairs.specs.Plans.{Answer, no_route, one_link, pair, Entry, root_entry, total_entry, no_route_entry, one_link_entry}

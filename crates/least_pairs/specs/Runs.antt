@@ -1,5 +1,5 @@
 -- A run: sites are settled one by one, the least label first, and each labels others over the links that it considers. Both runs of a planning are such runs.
-use Rattle.std.specs.Prelude.{◌≡◌, ℕ, zero, suc, Bool, true, false, cond, not, ◌&&◌, ◌||◌, List, [], ◌∷◌, Some, None, Option, ◌==◌}
+use Rattle.std.specs.Prelude.{ℕ, zero, suc, Bool, true, false, cond, ◌||◌, List, [], ◌∷◌, Some, None, Option, ◌==◌}
 use Rattle.costs.specs.Costs.{Ops}
 
 -- a label: its cost, the link that gave it, and the site that was settled then

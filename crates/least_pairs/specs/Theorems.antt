@@ -6,7 +6,7 @@ use Rattle.least_pairs.specs.Views.{View, view}
 use Rattle.least_pairs.specs.Routes.{Route, Pair, NoRoute, Shared}
 use Rattle.least_pairs.specs.Runs.{State}
 use Rattle.least_pairs.specs.Laws.{RunLaws, Same}
-use Rattle.least_pairs.specs.Plans.{first_job, second_job, first_run, second_run, Answer, answer, Entry, root_entry, total_entry, no_route_entry, one_link_entry, survey}
+use Rattle.least_pairs.specs.Plans.{first_job, second_job, first_run, second_run, answer, Entry, root_entry, total_entry, no_route_entry, one_link_entry, survey}
 use Rattle.least_pairs.specs.Rightness.{Says, Exactly, NoSiteTwice, Right, RightEntry}
 use Rattle.least_pairs.specs.Sizing.{SumsFit}
 

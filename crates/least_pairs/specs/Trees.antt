@@ -1,5 +1,5 @@
 -- The tree of the first run, and the pieces into which it falls as sites are struck.
-use Rattle.std.specs.Prelude.{ℕ, Bool, true, false, cond, not, ◌&&◌, List, [], ◌∷◌, Some, None, Option, ◌==◌}
+use Rattle.std.specs.Prelude.{ℕ, Bool, false, cond, List, [], ◌∷◌, Some, None, Option, ◌==◌}
 use Rattle.least_pairs.specs.Runs.{Label, has}
 
 -- the turn of a label, if there is one

@@ -1,6 +1,6 @@
 -- A network as a cost kind sees it: what a planner asks of it, by link number.
-use Rattle.std.specs.Prelude.{◌≡◌, ℕ, ◌<◌, ◌≤◌, Bool, true, false, not, ◌&&◌, length, ◌==◌}
-use Rattle.costs.specs.Costs.{Ops, Le}
+use Rattle.std.specs.Prelude.{ℕ, Bool, not, ◌&&◌, length, ◌==◌}
+use Rattle.costs.specs.Costs.{Ops}
 use Rattle.networks.specs.Meaning.{Net, link_at, usable}
 
 -- the number of sites and of links; of a link its start, its end, whether it is usable, and its cost

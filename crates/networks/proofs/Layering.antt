@@ -1,11 +1,11 @@
 -- What a layer shows: every link changed by its number, channels taken left alone. Its answers, takes and gives follow from those below.
-use Rattle.std.proofs.Common.{◌≡◌, ℕ, zero, suc, ◌+◌, ◌-◌, ◌<◌, ◌≤◌, Bool, true, false, cond, not, ◌&&◌, eqb, ltb, List, [], ◌∷◌, length, get_or, is_ok, Ok, Err, Result, sym, refl, ap, ◌∙◌, subst, arith, ltb-true, le-ltb, lt-ltb}
+use Rattle.std.proofs.Common.{◌≡◌, ℕ, ◌+◌, ◌-◌, ◌<◌, ◌≤◌, Bool, true, false, cond, not, ◌&&◌, eqb, ltb, length, is_ok, Ok, Err, sym, refl, ap, ◌∙◌, subst, arith, ltb-true, le-ltb, lt-ltb}
 use Rattle.std.proofs.lemmas.Bool.{cond-true, cond-false}
 use Rattle.networks.specs.declared.model.Link.{Link}
 use Rattle.networks.specs.declared.model.NetworkRefusal.{NetworkRefusal}
 use Rattle.networks.specs.declared.model.NetworkRefusal.TheVariants.{LinkTooHigh, NotUsable, NoneTaken}
 use Rattle.networks.specs.Meaning.{Net, Sound, link_at, link_sound, usable}
-use Rattle.networks.specs.Changing.{numbered, changed, only, retaken, dimmed, cleared}
+use Rattle.networks.specs.Changing.{changed, only, retaken, dimmed, cleared}
 use Rattle.networks.specs.Telling.{told, take_answer, take_after, give_answer, give_after}
 use Rattle.networks.proofs.Numbering.{length_numbered, link_at_changed, numbered_swap, all_sound_numbered}
 

@@ -1,9 +1,9 @@
 -- Lists of links changed by number: lengths, places, one change after another.
-use Rattle.std.proofs.Common.{◌≡◌, ℕ, zero, suc, ◌+◌, ◌<◌, ◌≤◌, Bool, true, false, cond, ◌&&◌, eqb, List, [], ◌∷◌, length, get_or, set, sym, refl, ap, ◌∙◌, add-zero, add-suc, suc-add, arith, eq-eqb, ne_eqb}
+use Rattle.std.proofs.Common.{◌≡◌, ℕ, zero, suc, ◌+◌, ◌<◌, true, eqb, List, [], ◌∷◌, length, get_or, set, sym, refl, ap, ◌∙◌, add-zero, arith, eq-eqb, ne_eqb}
 use Rattle.std.proofs.lemmas.Bool.{cond-true, cond-false, and_parts, and_from}
 use Rattle.networks.specs.declared.model.Link.{Link}
 use Rattle.networks.specs.Meaning.{Net, link_at, no_link, all_sound, link_sound}
-use Rattle.networks.specs.Changing.{numbered, changed, only, retaken}
+use Rattle.networks.specs.Changing.{numbered, changed, only}
 
 -- a change of each link leaves as many
 pub length_numbered : (f : ℕ → Link → Link) (k : ℕ) (ls : List Link) → length (numbered f k ls) ≡ length ls

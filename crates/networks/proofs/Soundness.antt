@@ -1,9 +1,9 @@
 -- Sound links: the facts that the test tells, and what keeps a list sound.
-use Rattle.std.proofs.Common.{◌≡◌, ℕ, zero, suc, ◌+◌, ◌-◌, ◌<◌, ◌≤◌, min, Bool, true, false, cond, not, ◌&&◌, eqb, ltb, leb, List, [], ◌∷◌, ◌++◌, length, get_or, set, sym, refl, ap, ◌∙◌, arith, ltb-true, lt-ltb, ne_eqb, le-leb, leb-true}
+use Rattle.std.proofs.Common.{◌≡◌, ℕ, zero, suc, ◌<◌, ◌≤◌, Bool, true, not, ◌&&◌, eqb, ltb, leb, List, [], ◌∷◌, ◌++◌, length, get_or, set, refl, arith, ltb-true, lt-ltb, ne_eqb, le-leb, leb-true}
 use borrow.Author.Tests.{eqb-false, not-true}
 use Rattle.std.proofs.lemmas.Bool.{and_parts, and_from, not_from_false}
 use Rattle.networks.specs.declared.model.Link.{Link}
-use Rattle.networks.specs.Meaning.{link_sound, all_sound, usable}
+use Rattle.networks.specs.Meaning.{link_sound, all_sound}
 use Rattle.networks.specs.Changing.{retaken, dimmed, remeasured}
 
 -- the limits of a link among so many sites

@@ -1,8 +1,7 @@
 -- Takes and gives: one link written with other channels taken.
-use Rattle.std.proofs.Common.{◌≡◌, ℕ, zero, suc, ◌+◌, ◌-◌, ◌<◌, ◌≤◌, Bool, true, false, cond, eqb, ltb, List, [], ◌∷◌, length, get_or, set, is_ok, Ok, Err, Result, sym, refl, ap, ◌∙◌, subst, arith, ltb-true, lt-ltb}
-use Rattle.std.proofs.lemmas.Bool.{cond-true, cond-false}
+use Rattle.std.proofs.Common.{◌≡◌, ℕ, ◌+◌, ◌-◌, ◌<◌, true, false, cond, eqb, ltb, length, set, is_ok, Ok, Err, sym, refl, ap, ◌∙◌, arith, ltb-true, lt-ltb}
+use Rattle.std.proofs.lemmas.Bool.{cond-true}
 use Rattle.networks.specs.declared.model.Link.{Link}
-use Rattle.networks.specs.declared.model.NetworkRefusal.{NetworkRefusal}
 use Rattle.networks.specs.declared.model.NetworkRefusal.TheVariants.{LinkTooHigh, NotUsable, NoneTaken}
 use Rattle.networks.specs.Meaning.{Net, link_at, no_link, usable}
 use Rattle.networks.specs.Changing.{numbered, changed, only, retaken, cleared}

@@ -1,5 +1,5 @@
 -- The network that owns its links: what it means, how it begins and grows.
-use Rattle.std.specs.Prelude.{◌≡◌, ℕ, Bool, true, false, ◌&&◌, List, [], ◌∷◌, ◌++◌, length, Ok, Err, vec_items, Result, nat_le, nat_lt}
+use Rattle.std.specs.Prelude.{◌≡◌, ℕ, Bool, true, false, ◌&&◌, [], ◌∷◌, ◌++◌, length, Ok, Err, vec_items, Result, nat_le, nat_lt}
 use Rattle.networks.specs.declared.model.Link.{Link}
 use Rattle.networks.specs.declared.owned.OwnedNetwork.{OwnedNetwork}
 use Rattle.networks.specs.declared.building.BuildRefusal.{BuildRefusal}

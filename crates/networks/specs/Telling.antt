@@ -1,5 +1,5 @@
 -- What a network answers, as a function of its meaning and the link's number.
-use Rattle.std.specs.Prelude.{ℕ, ◌+◌, ◌-◌, Bool, cond, length, is_ok, Ok, Err, Result, nat_lt}
+use Rattle.std.specs.Prelude.{ℕ, ◌+◌, ◌-◌, cond, length, is_ok, Ok, Err, Result, nat_lt}
 use Rattle.networks.specs.declared.model.Link.{Link}
 use Rattle.networks.specs.declared.model.NetworkRefusal.{NetworkRefusal}
 use Rattle.networks.specs.declared.model.NetworkRefusal.TheVariants.{LinkTooHigh, NotUsable, NoneTaken}

@@ -2,7 +2,6 @@
 use Rattle.std.proofs.Common.{◌≡◌, ℕ, ◌+◌, ◌<◌, ◌≤◌, true, List, [], ◌∷◌, ◌++◌, reverse, length, get_or, take, set, sym, refl, ap, ◌∙◌, subst, append_assoc, arith, length-append}
 use Rattle.std.proofs.lemmas.List.{get_or_default, append-nil}
 use Rattle.costs.specs.Costs.{Ops, Laws}
-use Rattle.costs.specs.Counting.{occurs}
 use Rattle.networks.specs.Meaning.{Net, Sound}
 use Rattle.least_pairs.specs.Views.{view}
 use Rattle.least_pairs.specs.Runs.{State, has}

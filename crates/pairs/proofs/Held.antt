@@ -1,5 +1,5 @@
 -- Three tables that hold labels, a site without a link having none, tell the links and the turns of the labels.
-use Rattle.std.proofs.Common.{◌≡◌, ℕ, ◌<◌, Bool, true, false, cond, eqb, List, get_or, Some, None, Option, sym, ap, ◌∙◌, inl, inr}
+use Rattle.std.proofs.Common.{◌≡◌, ℕ, ◌<◌, cond, eqb, List, get_or, Some, None, Option, sym, ap, ◌∙◌, inl, inr}
 use Rattle.std.proofs.lemmas.Bool.{cases_Bool, cond-true, cond-false, false≢true}
 use Rattle.costs.specs.Costs.{Ops}
 use Rattle.least_pairs.specs.Runs.{Label}

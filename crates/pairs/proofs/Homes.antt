@@ -1,5 +1,5 @@
 -- Both walks back for a target with a second label lead home.
-use Rattle.std.proofs.Common.{◌≡◌, ℕ, ◌<◌, true, List, length, sym, refl, ap, ◌∙◌, subst}
+use Rattle.std.proofs.Common.{◌≡◌, ℕ, ◌<◌, true, length, sym, refl, subst}
 use Rattle.costs.specs.Costs.{Ops, Laws}
 use Rattle.networks.specs.Meaning.{Net, Sound}
 use Rattle.least_pairs.specs.Views.{view}
@@ -12,7 +12,7 @@ use Rattle.least_pairs.proofs.Tree.{root_reached}
 use Rattle.least_pairs.proofs.Walks.{walk_reaches}
 use Rattle.least_pairs.proofs.Balance.{reads_a_pair}
 use Rattle.least_pairs.proofs.Proved.{no_route_visits_twice}
-use Rattle.pairs.specs.Reading.{first_of, second_of, target_marks, walked_back, first_walk, second_walk, pair_of, Home}
+use Rattle.pairs.specs.Reading.{first_of, second_of, target_marks, first_walk, second_walk, pair_of, Home}
 use Rattle.pairs.proofs.Turns.{marks_has}
 use Rattle.pairs.proofs.Backwards.{labelled_some, walk_marks}
 use Rattle.pairs.proofs.Both.{settled_labelled, first_ran, second_ran}

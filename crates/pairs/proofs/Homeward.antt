@@ -1,11 +1,10 @@
 -- A walk back over a network that leads home: where it goes on, and where it ends.
-use Rattle.std.proofs.Common.{◌≡◌, ℕ, ◌+◌, ◌<◌, ◌≤◌, Bool, true, cond, List, [], reverse, length, get_or, take, drop, set, sym, refl, ap, ◌∙◌, subst, arith, length-append}
+use Rattle.std.proofs.Common.{◌≡◌, ℕ, ◌+◌, ◌<◌, Bool, cond, List, [], reverse, length, get_or, take, set, sym, refl, ap, ◌∙◌, subst, arith, length-append}
 use Rattle.costs.specs.Costs.{Ops, Laws}
 use Rattle.networks.specs.Meaning.{Net, Sound}
 use Rattle.marks.specs.Sets.{less}
 use Rattle.least_pairs.specs.Views.{view}
 use Rattle.least_pairs.specs.Routes.{Walk}
-use Rattle.least_pairs.specs.Plans.{walk_back}
 use Rattle.least_pairs.proofs.Seen.{view_sound}
 use Rattle.pairs.specs.Tables.{Tells, Marked}
 use Rattle.pairs.specs.Reading.{first_of, second_of, walked_back, Home}

@@ -1,7 +1,7 @@
 -- A route that is written from its last link on.
-use Rattle.std.proofs.Common.{◌≡◌, ℕ, zero, suc, ◌+◌, ◌<◌, ◌≤◌, List, [], ◌∷◌, ◌++◌, reverse, length, take, drop, set, sym, refl, ap, ◌∙◌, arith}
+use Rattle.std.proofs.Common.{◌≡◌, ℕ, ◌+◌, ◌<◌, List, [], ◌∷◌, ◌++◌, reverse, length, take, drop, set, sym, refl, ap, ◌∙◌, arith}
 use mathlib.Core.List.{reverse-reverse}
-use Rattle.std.proofs.lemmas.List.{take_more_set, drop-set-lt, drop-drop, reverse-append, length-reverse, length-take-le}
+use Rattle.std.proofs.lemmas.List.{take_more_set, drop-set-lt, drop-drop, reverse-append}
 
 -- the first entries of a table are these links, the last first, and the others are as they were before
 pub record Written (before route : List ℕ) (count : ℕ) (es : List ℕ) : Type 0 where

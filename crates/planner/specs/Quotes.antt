@@ -1,5 +1,5 @@
 -- What a quote answers, by cases of the result.
-use Rattle.std.specs.Prelude.{◌≡◌, ℕ, Bool, true, false, not, ◌&&◌, List, [], ◌∷◌, length, take, drop, Ok, Err, Result, ◌==◌, nat_lt}
+use Rattle.std.specs.Prelude.{◌≡◌, ℕ, Bool, true, false, not, ◌&&◌, List, take, drop, Ok, Err, Result, ◌==◌, nat_lt}
 use Rattle.costs.specs.Costs.{Ops}
 use Rattle.networks.specs.Meaning.{Net}
 use Rattle.least_pairs.specs.Views.{view}

@@ -1,8 +1,8 @@
 -- Which entry comes before which: a total order.
-use Rattle.std.proofs.Common.{◌≡◌, ℕ, ◌<◌, ◌≤◌, Bool, true, false, not, ◌&&◌, ◌||◌, ltb, ◌⊎◌, sym, ap, ◌∙◌, subst, inl, inr, arith}
-use Rattle.std.proofs.lemmas.Bool.{both_ways, or_parts, or_from, or_cases, and_cases, and_left, and_right, and_parts, not-true, not-false, not_from_true, le-ltb, ltb-false, ltb-true}
-use Rattle.costs.specs.Costs.{Ops, Laws, Le, Lt}
-use Rattle.costs.proofs.Order.{lt_le, lt_trans, lt_self, le_same, lt_or_le}
+use Rattle.std.proofs.Common.{◌≡◌, ◌≤◌, true, false, not, ◌&&◌, ltb, ◌⊎◌, sym, ◌∙◌, subst, inl, inr, arith}
+use Rattle.std.proofs.lemmas.Bool.{or_parts, or_from, or_cases, and_cases, and_left, and_right, and_parts, not-true, not-false, not_from_true, le-ltb, ltb-false, ltb-true}
+use Rattle.costs.specs.Costs.{Ops, Laws, Lt}
+use Rattle.costs.proofs.Order.{lt_le, lt_trans, le_same, lt_or_le}
 use Rattle.queue.specs.Entries.{before}
 use Rattle.queue.specs.declared.entries.Entry.{Entry}
 

@@ -1,11 +1,11 @@
 -- Lemmas on entries that rise and sink.
-use Rattle.std.proofs.Common.{◌≡◌, ℕ, ◌+◌, ◌*◌, ◌<◌, ◌≤◌, Bool, true, false, ◌⊎◌, List, length, get_or, Some, None, sym, refl, ap, ◌∙◌, subst, inl, inr, arith}
+use Rattle.std.proofs.Common.{◌≡◌, ℕ, ◌+◌, ◌*◌, ◌<◌, Bool, true, false, List, length, get_or, Some, None, sym, refl, ap, ◌∙◌, subst, inl, inr, arith}
 use Rattle.std.proofs.lemmas.Bool.{cases_eq}
 use Rattle.std.proofs.lemmas.List.Edits.{Swapped}
 use Rattle.costs.specs.Costs.{Ops, Laws}
 use Rattle.std.proofs.lemmas.List.{get_or_read}
 use Rattle.queue.specs.Entries.{entry_at, before}
-use Rattle.queue.specs.Heaps.{above, Keeps, Heap, HeapAbove, HeapBelow, LeastBelow}
+use Rattle.queue.specs.Heaps.{above, Heap, HeapAbove, HeapBelow, LeastBelow}
 use Rattle.queue.specs.declared.entries.Entry.{Entry}
 use Rattle.queue.proofs.Precedence.{at_most_trans, before_once, before_self}
 

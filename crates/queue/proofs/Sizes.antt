@@ -1,10 +1,10 @@
 -- How many sites are held, and that there is room for one more.
-use Rattle.std.proofs.Common.{◌≡◌, ℕ, zero, suc, ◌+◌, ◌<◌, ◌≤◌, Bool, true, false, cond, eqb, ◌⊎◌, is_some, Some, None, Option, sym, refl, ap, ◌∙◌, subst, inl, inr, arith}
-use Rattle.std.proofs.lemmas.Bool.{cases_eq, cases_Bool, cond-true, cond-false, eq-eqb, ne_eqb, cases_lt}
+use Rattle.std.proofs.Common.{◌≡◌, ℕ, zero, suc, ◌+◌, ◌<◌, ◌≤◌, Bool, true, false, cond, eqb, is_some, Some, None, Option, sym, refl, ap, ◌∙◌, inl, inr, arith}
+use Rattle.std.proofs.lemmas.Bool.{cases_eq, cond-false, ne_eqb, cases_lt}
 use Rattle.queue.specs.Entries.{among, Once, NonePast}
 use Rattle.queue.specs.Queues.{number}
 use Rattle.queue.specs.declared.entries.Entry.{Entry}
-use Rattle.queue.proofs.Standing.{found, absent, stands, once_fewer}
+use Rattle.queue.proofs.Standing.{found, absent, once_fewer}
 
 -- what a number that passes a test or not adds
 abbrev one : Bool → ℕ

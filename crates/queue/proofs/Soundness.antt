@@ -1,9 +1,9 @@
 -- A queue stays sound, and holds what its calls say.
-use Rattle.std.proofs.Common.{◌≡◌, ℕ, suc, ◌+◌, ◌<◌, ◌≤◌, Bool, true, false, cond, not, ◌&&◌, eqb, ltb, ◌⊎◌, length, is_some, Some, None, Option, sym, refl, ap, ◌∙◌, subst, inl, inr, add-one, arith}
+use Rattle.std.proofs.Common.{◌≡◌, ℕ, suc, ◌+◌, ◌<◌, ◌≤◌, Bool, true, false, cond, not, ◌&&◌, eqb, ltb, is_some, Some, None, Option, sym, refl, ap, ◌∙◌, subst, inl, inr, add-one, arith}
 use Rattle.std.proofs.lemmas.Bool.{cases_eq, cases_Bool, cond-true, cond-false, eq-eqb, ne_eqb, or_parts, cases_lt}
 use Rattle.costs.specs.Costs.{Ops, Laws}
 use Rattle.costs.proofs.Order.{lt_self}
-use Rattle.queue.specs.Entries.{entry_at, before, among}
+use Rattle.queue.specs.Entries.{entry_at, among}
 use Rattle.queue.specs.Heaps.{Changed, First}
 use Rattle.queue.specs.Queues.{held_in, room_of, size_of, number, Sound, Put, Took}
 use Rattle.queue.specs.declared.entries.Entry.{Entry}

@@ -1,11 +1,11 @@
 -- Lemmas on heaps in which one entry is written, and on the first entry.
-use Rattle.std.proofs.Common.{◌≡◌, ℕ, zero, suc, ◌+◌, ◌-◌, ◌<◌, ◌≤◌, Bool, true, false, cond, eqb, ◌⊎◌, List, length, get_or, set, Some, None, Option, sym, refl, ap, ◌∙◌, subst, inl, inr, arith}
+use Rattle.std.proofs.Common.{◌≡◌, ℕ, zero, suc, ◌<◌, true, false, cond, eqb, List, length, set, Some, None, Option, sym, refl, ap, ◌∙◌, subst, inl, inr, arith}
 use Rattle.std.proofs.lemmas.Bool.{cases_eq, cond-true, cond-false, eq-eqb, ne_eqb}
 use Rattle.std.proofs.lemmas.List.{get_or-set_same, get_or-set_other}
 use Rattle.std.proofs.lemmas.List.Edits.{Swapped}
 use Rattle.costs.specs.Costs.{Ops, Laws}
 use Rattle.queue.specs.Entries.{entry_at, before, among, Once, PlaceOf, Rearranged}
-use Rattle.queue.specs.Heaps.{above, Keeps, Heap, HeapAbove, HeapBelow, Changed, First}
+use Rattle.queue.specs.Heaps.{above, Heap, HeapAbove, HeapBelow, Changed, First}
 use Rattle.queue.specs.declared.entries.Entry.{Entry}
 use Rattle.queue.proofs.Precedence.{at_most_trans, before_once, before_self}
 use Rattle.queue.proofs.Standing.{found, absent, stands, placed, once_fewer, rearranged_swap}

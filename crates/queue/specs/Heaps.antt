@@ -1,5 +1,5 @@
 -- The order in which the entries of a heap stand.
-use Rattle.std.specs.Prelude.{◌≡◌, ℕ, ◌-◌, ◌/◌, ◌<◌, true, false, cond, Some, None, Option, ◌==◌, ◌≢◌}
+use Rattle.std.specs.Prelude.{◌≡◌, ℕ, ◌-◌, ◌/◌, ◌<◌, false, cond, Some, None, Option, ◌==◌, ◌≢◌}
 use Rattle.costs.specs.Costs.{Ops}
 use Rattle.queue.specs.declared.entries.Entry.{Entry}
 use Rattle.queue.specs.Entries.{before, among, Once}

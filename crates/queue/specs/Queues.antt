@@ -1,5 +1,5 @@
 -- What a queue holds, and what its calls change.
-use Rattle.std.specs.Prelude.{◌≡◌, ℕ, zero, suc, ◌+◌, ◌<◌, ◌≤◌, Bool, true, false, cond, length, is_some, Some, None, Ok, Err, Option, Result, ◌==◌}
+use Rattle.std.specs.Prelude.{◌≡◌, ℕ, zero, suc, ◌+◌, ◌<◌, ◌≤◌, Bool, false, cond, length, is_some, Some, None, Ok, Err, Option, Result, ◌==◌}
 use Rattle.costs.specs.Costs.{Ops}
 use Rattle.queue.specs.declared.entries.Entry.{Entry}
 use Rattle.queue.specs.declared.queues.Queue.{Queue}

@@ -1,6 +1,6 @@
 -- The first record of some bytes, as it is cut off them.
-use Rattle.std.proofs.Common.{◌≡◌, ℕ, ◌+◌, ◌-◌, ◌*◌, ◌<◌, ◌≤◌, Bool, true, false, ◌||◌, ltb, List, [], ◌∷◌, ◌++◌, length, get_or, take, drop, sym, refl, ap, ◌∙◌, subst, ⊎_elim, arith, Fits-lit, w8, Fits}
-use Rattle.std.proofs.lemmas.List.{take_rest, drop-drop, drop_more, length-take-le, length-take, length-drop, get_or-take, get_or-drop, get_or_past, take-append-drop}
+use Rattle.std.proofs.Common.{◌≡◌, ℕ, ◌+◌, ◌-◌, ◌<◌, ◌≤◌, true, false, List, [], ◌∷◌, ◌++◌, length, get_or, take, drop, sym, refl, ap, ◌∙◌, subst, ⊎_elim, arith, Fits-lit, w8, Fits}
+use Rattle.std.proofs.lemmas.List.{take_rest, drop-drop, length-take-le, length-take, length-drop, get_or-take, get_or-drop, get_or_past, take-append-drop}
 use Rattle.records.proofs.Numbers.{le16_of}
 use Rattle.std.proofs.lemmas.Bool.{le-ltb, lt-ltb, ltb-false, or_from, or_left, or_right, or_parts, cases_lt}
 use Rattle.records.specs.Bytes.{le16, u16_at, record_bytes, cut_short, kind_of, payload_of, rest_of, First}

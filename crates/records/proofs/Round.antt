@@ -1,7 +1,7 @@
 -- A record that was written is read again.
-use Rattle.std.proofs.Common.{◌≡◌, ℕ, ◌+◌, ◌-◌, ◌*◌, ◌<◌, ◌≤◌, Bool, true, false, ◌||◌, List, [], ◌∷◌, ◌++◌, length, get_or, take, drop, sym, refl, ap, ◌∙◌, arith}
+use Rattle.std.proofs.Common.{◌≡◌, ℕ, ◌+◌, ◌<◌, false, List, ◌++◌, length, drop, sym, ap, ◌∙◌, arith}
 use Rattle.std.proofs.lemmas.List.{take_at, drop_at, length-append}
-use Rattle.records.specs.Bytes.{le16, u16_at, record_bytes, cut_short, kind_of, payload_of, rest_of}
+use Rattle.records.specs.Bytes.{u16_at, record_bytes, cut_short, kind_of, payload_of, rest_of}
 use Rattle.records.proofs.Numbers.{of_le16}
 use Rattle.records.proofs.Cutting.{whole}
 

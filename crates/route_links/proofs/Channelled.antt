@@ -1,14 +1,14 @@
 -- Channels taken and given link by link.
 use Rattle.std.proofs.Common.{◌≡◌, ℕ, suc, ◌+◌, ◌-◌, ◌<◌, ◌≤◌, Bool, true, false, cond, eqb, ltb, List, [], ◌∷◌, ◌++◌, length, get_or, take, drop, Ok, Err, Result, sym, refl, ap, ◌∙◌, subst, inl, inr, arith, take-append-drop}
 use Rattle.std.proofs.lemmas.List.{get_or_past, take_more, drop_more}
-use Rattle.std.proofs.lemmas.Bool.{both_ways, cases_lt, cases_Bool, cases_eq, cond-true, cond-false, eq-eqb, ne_eqb, eqb-true, lt-ltb, le-ltb, ltb-true, ltb-false}
+use Rattle.std.proofs.lemmas.Bool.{both_ways, cases_lt, cases_Bool, cases_eq, cond-true, cond-false, eq-eqb, ne_eqb, lt-ltb, le-ltb, ltb-true, ltb-false}
 use Rattle.costs.specs.Counting.{hit, occurs}
 use Rattle.networks.specs.declared.model.Link.{Link}
 use Rattle.networks.specs.declared.model.NetworkRefusal.{NetworkRefusal}
 use Rattle.networks.specs.declared.model.NetworkRefusal.TheVariants.{LinkTooHigh, NoneTaken}
 use Rattle.networks.specs.Meaning.{Net, no_link, link_at, usable}
 use Rattle.networks.specs.Changing.{retaken, numbered, changed, only}
-use Rattle.networks.specs.Telling.{take_answer, take_after, give_answer, give_after}
+use Rattle.networks.specs.Telling.{take_answer, take_after, give_after}
 use Rattle.networks.proofs.Numbering.{length_numbered, numbered_twice, numbered_same, numbered_none, link_at_changed}
 use Rattle.networks.proofs.Layering.{refused_give}
 use Rattle.networks.proofs.Taking.{take_accepted, take_leaves, give_accepted, give_leaves}

@@ -1,11 +1,10 @@
 -- Both runs of a planning can be run.
-use Rattle.std.proofs.Common.{◌≡◌, ℕ, ◌<◌, ◌≤◌, true, not, ◌&&◌, eqb, List, sym, refl, ap, ◌∙◌, subst}
+use Rattle.std.proofs.Common.{◌≡◌, ℕ, ◌<◌, ◌≤◌, true, not, ◌&&◌, eqb}
 use Rattle.std.proofs.lemmas.Bool.{and_parts}
 use Rattle.costs.specs.Costs.{Ops, Laws}
 use Rattle.networks.specs.Meaning.{Net, Sound}
 use Rattle.least_pairs.specs.Views.{View, view, without}
 use Rattle.least_pairs.specs.Plans.{first_job, second_job, first_run, second_run}
-use Rattle.least_pairs.specs.Laws.{RunLaws}
 use Rattle.least_pairs.specs.Sizing.{SumsFit}
 use Rattle.least_pairs.proofs.Sight.{SoundView}
 use Rattle.least_pairs.proofs.Seen.{view_sound, cost_size}

@@ -1,11 +1,10 @@
 -- A record of a sheet that was written is read again.
-use Rattle.std.proofs.Common.{◌≡◌, ℕ, ◌+◌, ◌<◌, ◌≤◌, Bool, true, false, cond, List, [], ◌∷◌, ◌++◌, length, drop, sym, refl, ap, ◌∙◌, arith}
+use Rattle.std.proofs.Common.{◌≡◌, ℕ, ◌+◌, ◌<◌, ◌≤◌, true, false, List, ◌++◌, length, sym, refl, ap, ◌∙◌, arith}
 use Rattle.std.proofs.lemmas.Bool.{le-leb, and_from, or_left}
-use Rattle.networks.specs.declared.model.Link.{Link}
-use Rattle.records.specs.Bytes.{le16, le32, u16_at, u32_at, record_bytes, cut_short, kind_of, payload_of, rest_of}
+use Rattle.records.specs.Bytes.{le16, le32, u16_at, record_bytes, cut_short, kind_of, payload_of, rest_of}
 use Rattle.records.proofs.Numbers.{of_le16, of_le32}
 use Rattle.records.proofs.Round.{length_again, whole_again, kind_again, payload_again, rest_again}
-use Rattle.sheet_format.specs.Items.{Named, Item, header, name, link, bytes_of, shaped, lit_link, item_of}
+use Rattle.sheet_format.specs.Items.{Item, header, name, link, bytes_of, shaped, item_of}
 use Rattle.sheet_format.specs.Sheets.{Unused}
 
 -- a record whose numbers fit their bytes

@@ -1,11 +1,11 @@
 -- The order of the checks, one case at a time, and what a passed check says.
-use Rattle.std.proofs.Common.{◌≡◌, ℕ, ◌+◌, ◌<◌, ◌≤◌, Bool, true, false, cond, not, ◌&&◌, eqb, ltb, leb, List, [], ◌∷◌, ◌++◌, length, Some, None, Option, sym, refl, ap, ◌∙◌, arith}
+use Rattle.std.proofs.Common.{◌≡◌, ℕ, ◌<◌, ◌≤◌, true, false, eqb, List, length, Some, None, ◌∙◌, arith}
 use Rattle.std.proofs.lemmas.Bool.{cond-true, cond-false, eq-eqb, ne_eqb, and_parts, leb-true, ltb-true}
 use Rattle.networks.specs.declared.model.Link.{Link}
 use Rattle.networks.specs.Meaning.{link_sound}
 use Rattle.records.specs.Bytes.{cut_short, kind_of, payload_of}
 use Rattle.sheet_format.specs.Items.{Item, shaped, item_of}
-use Rattle.sheet_format.specs.Rules.{Rule, whole_record, right_shape, right_order, within_limits, link_count, Before, header_sound, in_order, within, counted, refused, unfinished, broken}
+use Rattle.sheet_format.specs.Rules.{whole_record, right_shape, right_order, within_limits, link_count, Before, header_sound, in_order, within, counted, refused, unfinished, broken}
 
 module _ (b : Before) (rest : List ℕ) where
   pub broken_end : length rest ≡ 0 → broken b rest ≡ unfinished b

@@ -1,11 +1,11 @@
 -- Reading as a run from record to record, which comes to one outcome.
-use Rattle.std.proofs.Common.{◌≡◌, ℕ, ◌+◌, ◌<◌, ◌≤◌, List, [], ◌∷◌, ◌++◌, length, Some, None, Option, sym, refl, ap, ◌∙◌, subst, arith}
+use Rattle.std.proofs.Common.{◌≡◌, ℕ, ◌+◌, ◌<◌, List, ◌++◌, length, Some, None, Option, sym, ap, ◌∙◌, subst, arith}
 use Rattle.records.specs.Bytes.{u16_at, kind_of, payload_of, rest_of}
 use Rattle.sheet_format.specs.Items.{Item, bytes_of, item_of}
 use Rattle.sheet_format.specs.Rules.{Rule, Fields, Before, begun, refused, broken, added}
 use Rattle.sheet_format.specs.Sheets.{Outcome, sheet, fault}
 use Rattle.sheet_format.proofs.Checks.{broken_record}
-use Rattle.sheet_format.proofs.Back.{Fitting, ReadsBack, reads_back}
+use Rattle.sheet_format.proofs.Back.{Fitting, reads_back}
 
 pub data Runs : Before → List ℕ → ℕ → Outcome → Type 0 where
   stops : {b : Before} {rest : List ℕ} {p : ℕ} {o : Outcome} (r : Rule) → broken b rest ≡ Some r → o ≡ fault r p → Runs b rest p o

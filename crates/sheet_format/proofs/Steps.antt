@@ -1,17 +1,17 @@
 -- One record more: what was read stays lawful, and its bytes are those before it and then its own.
 use Rattle.std.proofs.Common.{◌≡◌, ℕ, ◌+◌, ◌<◌, ◌≤◌, Bool, true, false, cond, ◌&&◌, eqb, leb, ◌⊎◌, List, [], ◌∷◌, ◌++◌, length, drop, Some, None, Option, sym, refl, ap, ◌∙◌, subst, inl, inr, ⊎_elim, append_assoc, append-nil, arith, length-append, length-drop}
-use Rattle.std.specs.List.{flat_map, AllByRecursion}
+use Rattle.std.specs.List.{flat_map}
 use Rattle.std.proofs.slice.Lists.{all_by_recursion_push}
 use Rattle.std.proofs.lemmas.List.{flat_map_more, drop_all, nil_from_length}
 use Rattle.std.proofs.lemmas.Bool.{and_parts, and_from, leb-true, ltb-true, eqb-true, or_cases, false≢true}
 use Rattle.networks.specs.declared.model.Link.{Link}
 use Rattle.networks.specs.Meaning.{link_sound, all_sound}
-use Rattle.records.specs.Bytes.{le16, le32, u16_at, u32_at, record_bytes, kind_of, payload_of}
+use Rattle.records.specs.Bytes.{le16, le32, u16_at, u32_at, record_bytes}
 use Rattle.records.proofs.Cutting.{Bytes}
 use Rattle.records.proofs.Payloads.{two_at, four_at, u16_fits, u32_fits}
 use Rattle.sheet_format.specs.Items.{Named, Item, header, name, link, bytes_of, shaped, item_of}
-use Rattle.sheet_format.specs.Rules.{Rule, Fields, Before, unbegun, begun, next_site, in_order, within, counted, refused, added}
-use Rattle.sheet_format.specs.Sheets.{written, GoodName, Rising, Unused, Beginning, written_before, LawfulBefore}
+use Rattle.sheet_format.specs.Rules.{Rule, Before, unbegun, begun, next_site, in_order, within, counted, refused, added}
+use Rattle.sheet_format.specs.Sheets.{GoodName, Rising, Unused, written_before, LawfulBefore}
 use Rattle.sheet_format.proofs.Back.{Fitting}
 
 pub clash : (r : Rule) → ◌≡◌ {A = Option Rule} (Some r) None → ⊥

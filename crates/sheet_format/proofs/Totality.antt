@@ -1,12 +1,12 @@
 -- All bytes mean something.
-use Rattle.std.proofs.Common.{◌≡◌, ℕ, zero, suc, ◌+◌, ◌<◌, ◌≤◌, Bool, true, false, cond, eqb, List, [], ◌∷◌, ◌++◌, length, get_or, drop, Some, None, Option, sym, refl, ap, ◌∙◌, subst, ⊎_elim, append_assoc, append-nil, arith, length-drop}
+use Rattle.std.proofs.Common.{◌≡◌, ℕ, zero, suc, ◌+◌, ◌<◌, Bool, true, false, cond, List, ◌++◌, length, get_or, drop, Some, None, Option, sym, refl, ap, ◌∙◌, ⊎_elim, append_assoc, append-nil, arith, length-drop}
 use Rattle.std.proofs.lemmas.List.{nil_from_length}
 use Rattle.std.proofs.lemmas.Bool.{cond-false, ne_eqb, eqb-true, cases_eq}
-use Rattle.records.specs.Bytes.{record_bytes, u16_at, cut_short, kind_of, payload_of, rest_of}
+use Rattle.records.specs.Bytes.{u16_at, cut_short, kind_of, payload_of, rest_of}
 use Rattle.records.proofs.Cutting.{Bytes, bytes_take, bytes_drop, written_is}
-use Rattle.sheet_format.specs.Items.{Item, bytes_of, shaped, item_of}
-use Rattle.sheet_format.specs.Rules.{Rule, whole_record, Fields, Before, unbegun, begun, refused, unfinished, broken, added}
-use Rattle.sheet_format.specs.Sheets.{written, Lawful, written_before, LawfulBefore, Fails, Outcome, sheet, fault, Means}
+use Rattle.sheet_format.specs.Items.{bytes_of, shaped, item_of}
+use Rattle.sheet_format.specs.Rules.{Rule, whole_record, Before, unbegun, begun, refused, broken, added}
+use Rattle.sheet_format.specs.Sheets.{written, written_before, LawfulBefore, Outcome, sheet, fault, Means}
 use Rattle.sheet_format.proofs.Checks.{broken_end}
 use Rattle.sheet_format.proofs.Steps.{clash, whole_item, proper_item, grows, written_more}
 

@@ -1,12 +1,12 @@
 -- The same bytes mean one thing.
-use Rattle.std.proofs.Common.{◌≡◌, ℕ, ◌+◌, ◌<◌, ◌≤◌, Bool, true, false, cond, ◌&&◌, List, [], ◌∷◌, ◌++◌, length, Some, None, sym, refl, ap, ◌∙◌, subst, append_assoc, append-nil, add-zero, add_assoc, zero-add, arith, length-append}
+use Rattle.std.proofs.Common.{◌≡◌, ℕ, ◌+◌, ◌<◌, ◌≤◌, true, List, [], ◌∷◌, ◌++◌, length, sym, refl, ap, ◌∙◌, subst, append_assoc, append-nil, add-zero, add_assoc, zero-add, arith, length-append}
 use Rattle.std.specs.List.{flat_map, AllByRecursion}
-use Rattle.std.proofs.lemmas.Bool.{and_parts, and_from, le-leb, lt-ltb, ltb-true, eq-eqb, cond-true}
+use Rattle.std.proofs.lemmas.Bool.{and_parts, le-leb, lt-ltb, ltb-true, eq-eqb, cond-true}
 use Rattle.networks.specs.declared.model.Link.{Link}
 use Rattle.networks.specs.Meaning.{link_sound, all_sound}
-use Rattle.sheet_format.specs.Items.{Named, Item, header, name, link, bytes_of}
-use Rattle.sheet_format.specs.Rules.{Fields, Before, unbegun, begun, next_site, broken}
-use Rattle.sheet_format.specs.Sheets.{written, GoodName, Rising, Unused, Beginning, Lawful, written_before, LawfulBefore, Fails, Outcome, sheet, fault, Means}
+use Rattle.sheet_format.specs.Items.{Named, header, name, link, bytes_of}
+use Rattle.sheet_format.specs.Rules.{Fields, Before, unbegun, begun, next_site}
+use Rattle.sheet_format.specs.Sheets.{written, GoodName, Rising, Unused, written_before, LawfulBefore, Outcome, sheet, fault, Means}
 use Rattle.sheet_format.proofs.Checks.{refused_none, link_limits, header_limits, broken_end}
 use Rattle.sheet_format.proofs.Back.{Fitting}
 use Rattle.sheet_format.proofs.Runs.{Runs, stops, ends, one_outcome, over}

@@ -1,5 +1,5 @@
 -- The records of a sheet, and the bytes that write them.
-use Rattle.std.specs.Prelude.{ℕ, Bool, true, cond, ◌&&◌, ◌||◌, List, [], ◌∷◌, ◌++◌, drop, ◌==◌, nat_le}
+use Rattle.std.specs.Prelude.{ℕ, Bool, true, cond, ◌&&◌, ◌||◌, List, ◌++◌, drop, ◌==◌, nat_le}
 use Rattle.networks.specs.declared.model.Link.{Link}
 use Rattle.records.specs.Bytes.{le16, le32, u16_at, u32_at, record_bytes}
 

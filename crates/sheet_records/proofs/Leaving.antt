@@ -1,11 +1,11 @@
 -- The bytes left at a place of a sheet, and the record that they begin with.
-use Rattle.std.proofs.Common.{◌≡◌, ℕ, ◌+◌, ◌-◌, ◌<◌, ◌≤◌, true, false, eqb, List, [], ◌∷◌, ◌++◌, length, take, drop, sym, refl, ap, ◌∙◌, subst, arith, length-append, length-drop}
+use Rattle.std.proofs.Common.{◌≡◌, ℕ, ◌+◌, ◌-◌, ◌<◌, ◌≤◌, true, false, eqb, List, ◌++◌, length, drop, sym, refl, ap, ◌∙◌, arith, length-append, length-drop}
 use Rattle.std.proofs.lemmas.List.{drop_at}
 use Rattle.std.proofs.lemmas.Bool.{eqb-false}
-use Rattle.records.specs.Bytes.{record_bytes, cut_short, kind_of, payload_of, rest_of, First}
-use Rattle.sheet_format.specs.Items.{Item, bytes_of, shaped, item_of}
+use Rattle.records.specs.Bytes.{record_bytes, cut_short, kind_of, payload_of, First}
+use Rattle.sheet_format.specs.Items.{bytes_of, shaped, item_of}
 use Rattle.sheet_records.specs.declared.record.Placed.{Placed}
-use Rattle.sheet_records.specs.Records.{item, Found, Cut, Misshapen}
+use Rattle.sheet_records.specs.Records.{item, Found}
 
 -- the bytes left, where there are some
 pub some_left : (sheet left : List ℕ) (place : ℕ) → left ≡ drop place sheet → eqb (length left) 0 ≡ false → 0 < length (drop place sheet)

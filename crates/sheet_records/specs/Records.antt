@@ -1,5 +1,5 @@
 -- What the record reader gives.
-use Rattle.std.specs.Prelude.{◌≡◌, ℕ, ◌+◌, ◌<◌, true, false, List, [], ◌∷◌, ◌++◌, length, drop, Some, None, Ok, Err, Option, Result}
+use Rattle.std.specs.Prelude.{◌≡◌, ℕ, ◌+◌, ◌<◌, true, false, List, ◌++◌, length, drop, Some, None, Ok, Err, Option, Result}
 use Rattle.records.specs.Bytes.{record_bytes, cut_short, kind_of, payload_of}
 use Rattle.sheet_format.specs.Items.{Item, header, name, link, bytes_of, shaped, item_of}
 use Rattle.sheet_records.specs.declared.record.Record.{Record}

@@ -1,5 +1,5 @@
 -- A pushed record is a record of the sheet.
-use Rattle.std.proofs.Common.{◌≡◌, ℕ, ◌<◌, ◌≤◌, Bool, true, List, ◌++◌, length, Ok, Err, Result, sym, refl, ap, ◌∙◌, subst, arith}
+use Rattle.std.proofs.Common.{◌≡◌, ℕ, ◌≤◌, Bool, true, List, ◌++◌, length, Ok, Err, Result, ap, ◌∙◌, arith}
 use Rattle.records.specs.declared.WriteFault.{WriteFault}
 use Rattle.records.specs.declared.WriteFault.TheVariants.{TooLong, Memory}
 use Rattle.records.specs.Bytes.{record_bytes}

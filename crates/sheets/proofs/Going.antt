@@ -1,9 +1,9 @@
 -- Reading goes on by a record, stops at a fault, or comes to the sheet's end.
-use Rattle.std.proofs.Common.{◌≡◌, ℕ, ◌+◌, ◌<◌, ◌≤◌, Bool, true, false, List, [], ◌∷◌, ◌++◌, length, drop, Some, None, Ok, Err, Option, Result, sym, refl, ap, ◌∙◌, subst, append_assoc, append-nil, arith, length-append, length-drop}
+use Rattle.std.proofs.Common.{◌≡◌, ℕ, ◌+◌, ◌≤◌, List, ◌++◌, length, drop, Some, None, Ok, Err, Result, sym, refl, ap, ◌∙◌, subst, append_assoc, append-nil, arith, length-append, length-drop}
 use Rattle.std.proofs.lemmas.List.{drop-drop, nil_from_length}
 use Rattle.records.specs.Bytes.{kind_of, payload_of}
 use Rattle.sheet_format.specs.Items.{Item, header, name, link, bytes_of}
-use Rattle.sheet_format.specs.Rules.{Rule, whole_record, right_shape, right_order, within_limits, link_count, Fields, Before, unbegun, begun, refused, unfinished, broken, added}
+use Rattle.sheet_format.specs.Rules.{Rule, whole_record, right_shape, right_order, within_limits, link_count, Fields, Before, unbegun, begun, refused, broken, added}
 use Rattle.sheet_format.specs.Sheets.{written, Lawful, written_before, Fails, sheet, fault, Means}
 use Rattle.sheet_format.proofs.Checks.{broken_end, broken_record}
 use Rattle.sheet_format.proofs.Unique.{unique}
@@ -16,7 +16,7 @@ use Rattle.sheets.specs.declared.gathering.Gathering.{Gathering}
 use Rattle.sheets.specs.declared.gathering.Sheet.{Sheet}
 use Rattle.sheet_records.specs.Records.{item, Found}
 use Rattle.sheets.specs.Taking.{gathered, fields_of, Blames, Begun, Finished}
-use Rattle.sheets.specs.Reads.{Sofar, Moved, Began, Wanting, Reads, Gives}
+use Rattle.sheets.specs.Reads.{Sofar, Moved, Began, Reads, Gives}
 
 long_item : (x : Item) → 4 ≤ length (bytes_of x)
 long_item (header s c) = omega arith

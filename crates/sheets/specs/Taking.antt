@@ -1,8 +1,8 @@
 -- What the records so far come to, and how a record is taken or refused.
-use Rattle.std.specs.Prelude.{◌≡◌, ℕ, List, length, Some, None, Ok, Err, Option, Result}
+use Rattle.std.specs.Prelude.{◌≡◌, ℕ, length, Some, None, Ok, Err, Option, Result}
 use Rattle.networks.specs.Owning.{owned_meaning}
 use Rattle.sheet_format.specs.Items.{Item}
-use Rattle.sheet_format.specs.Rules.{Rule, whole_record, right_shape, right_order, within_limits, link_count, Fields, Before, unbegun, begun, refused, unfinished, added}
+use Rattle.sheet_format.specs.Rules.{Rule, whole_record, right_shape, right_order, within_limits, link_count, Fields, unbegun, begun, refused, unfinished, added}
 use Rattle.sheet_records.specs.declared.faults.RecordFault.TheVariants.{CutShort, WrongShape}
 use Rattle.sheets.specs.declared.faults.SheetFault.{SheetFault}
 use Rattle.sheets.specs.declared.faults.SheetFault.TheVariants as its

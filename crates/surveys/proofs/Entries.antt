@@ -1,12 +1,12 @@
 -- The outcome of a site by what the tables of both runs hold.
-use Rattle.std.proofs.Common.{◌≡◌, ℕ, ◌+◌, ◌<◌, ◌≤◌, true, false, cond, ◌&&◌, eqb, leb, List, [], ◌∷◌, length, get_or, drop, set, Some, sym, refl, ap, ◌∙◌, subst, inl, inr, arith}
+use Rattle.std.proofs.Common.{◌≡◌, ℕ, ◌+◌, ◌<◌, ◌≤◌, true, false, ◌&&◌, eqb, leb, List, [], ◌∷◌, length, get_or, drop, set, Some, sym, refl, ap, ◌∙◌, subst, inl, inr, arith}
 use Rattle.std.proofs.lemmas.List.{get_or-set_same, get_or-set_other, drop-set-lt}
 use Rattle.std.proofs.lemmas.Bool.{and_from, le-leb, cases_eq, cond-true, cond-false, eq-eqb, ne_eqb}
 use Rattle.costs.specs.Costs.{Ops, Laws, worked}
 use Rattle.networks.specs.Meaning.{Net, Sound}
 use Rattle.least_pairs.specs.Views.{view}
 use Rattle.least_pairs.specs.Runs.{Label}
-use Rattle.least_pairs.specs.Plans.{Answer, no_route, one_link, pair, answer, Entry, root_entry, entry_of, survey, labelled, first_cut}
+use Rattle.least_pairs.specs.Plans.{Answer, no_route, one_link, pair, answer, root_entry, entry_of, survey, labelled, first_cut}
 use Rattle.least_pairs.specs.Theorems.{RightSurvey}
 use Rattle.least_pairs.proofs.Proved.{surveys_are_right}
 use Rattle.pairs.specs.Reading.{first_of, second_of, pair_of, tree_route_to}

@@ -1,17 +1,15 @@
 -- Each example of the table is computed; on the grid, by what its numbers determine.
-use Rattle.std.proofs.Common.{◌≡◌, ℕ, ◌<◌, true, List, [], ◌∷◌, pos, sym, refl, ap, ◌∙◌, subst, arith}
+use Rattle.std.proofs.Common.{◌≡◌, true, [], ◌∷◌, pos, refl, ap, arith}
 use Rattle.std.specs.List.{AllByRecursion as All}
 use Rattle.costs.specs.Lengths.{length_ops, metres}
-use Rattle.networks.specs.declared.model.Link.{Link}
-use Rattle.networks.specs.Meaning.{Net, link_at}
+use Rattle.networks.specs.Meaning.{Net}
 use Rattle.grids.specs.Streets.{Grid, grid_within, street}
 use Rattle.grids.proofs.Whole.{plans, is_grid, same_grid}
 use Rattle.sheet_format.specs.Items.{header, bytes_of}
 use Rattle.sheet_format.specs.Rules.{unbegun}
-use Rattle.sheet_format.specs.Sheets.{Fails, Lawful, Beginning}
 use Rattle.least_pairs.specs.Views.{view}
 use Rattle.least_pairs.specs.Plans.{pair as two_routes, answer, first_run, second_run, pair_read}
-use Rattle.worked_examples.specs.Table.{Holds, table, exchange, poles}
+use Rattle.worked_examples.specs.Table.{Holds, table}
 
 -- the eight links of the two by two grid
 abbrev square : Net

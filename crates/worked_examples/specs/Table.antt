@@ -1,5 +1,5 @@
 -- Worked examples, in one table: answers on small networks by both cost kinds, and what some bytes mean as a sheet.
-use Rattle.std.specs.Prelude.{◌≡◌, ℕ, true, List, [], ◌∷◌, ℤ, pos, nat_eq}
+use Rattle.std.specs.Prelude.{◌≡◌, ℕ, true, List, [], ◌∷◌, pos, nat_eq}
 use Rattle.costs.specs.declared.metres.Length.{Length}
 use Rattle.costs.specs.declared.pairs.FirstThen.{FirstThen}
 use Rattle.costs.specs.declared.pairs.PolesThenMetres.{PolesThenMetres}

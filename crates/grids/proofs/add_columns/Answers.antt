@@ -1,8 +1,8 @@
 -- Each street across is sound and has room; one turn adds one.
-use Rattle.std.proofs.Common.{◌≡◌, ℕ, ◌+◌, ◌*◌, ◌<◌, ◌≤◌, true, List, [], ◌++◌, length, sym, ap, ◌∙◌, subst, append-nil, arith, length-append}
-use Rattle.networks.specs.Meaning.{Net, link_sound}
+use Rattle.std.proofs.Common.{◌≡◌, ℕ, ◌+◌, ◌*◌, ◌<◌, true, length, sym, ap, ◌∙◌, subst, arith, length-append}
+use Rattle.networks.specs.Meaning.{link_sound}
 use Rattle.networks.specs.Owning.{owned_meaning}
-use Rattle.grids.specs.Streets.{net, street, two_ways}
+use Rattle.grids.specs.Streets.{street, two_ways}
 use Rattle.grids.proofs.Pairs.{street_sound, two_ways_length, column_inside, few_streets, next_street}
 use Rattle.grids.proofs.add_columns.Goals as goal
 

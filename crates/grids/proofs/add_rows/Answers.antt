@@ -1,8 +1,8 @@
 -- Each street along a row is sound and has room; one turn adds one.
-use Rattle.std.proofs.Common.{◌≡◌, ℕ, ◌+◌, ◌*◌, ◌<◌, ◌≤◌, true, List, [], length, sym, ap, ◌∙◌, subst, arith}
-use Rattle.networks.specs.Meaning.{Net, link_sound}
+use Rattle.std.proofs.Common.{◌≡◌, ℕ, ◌+◌, ◌*◌, ◌<◌, true, [], length, sym, ap, ◌∙◌, subst, arith}
+use Rattle.networks.specs.Meaning.{link_sound}
 use Rattle.networks.specs.Owning.{owned_meaning}
-use Rattle.grids.specs.Streets.{net, street, two_ways, row_site}
+use Rattle.grids.specs.Streets.{street, row_site}
 use Rattle.grids.proofs.Pairs.{street_sound, two_ways_length, row_inside, few_streets, next_street}
 use Rattle.grids.proofs.add_rows.Goals as goal
 

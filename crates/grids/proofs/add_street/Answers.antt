@@ -1,6 +1,5 @@
 -- Both links of a street are added, or memory is wanting.
-use Rattle.std.proofs.Common.{◌≡◌, ◌+◌, ◌<◌, true, [], ◌∷◌, length, sym, refl, ap, ◌∙◌, subst, arith, length-append}
-use Rattle.networks.specs.Meaning.{link_sound}
+use Rattle.std.proofs.Common.{◌≡◌, ◌<◌, true, [], ◌∷◌, length, sym, ap, ◌∙◌, subst, arith, length-append}
 use Rattle.networks.specs.Owning.{owned_meaning, extended, has_room, Added}
 use Rattle.grids.specs.Streets.{street}
 use Rattle.grids.proofs.Pairs.{room, second_added}

@@ -1,9 +1,9 @@
 -- Every number is within its limits, so the grid is made or memory is wanting.
-use Rattle.std.proofs.Common.{◌≡◌, ℕ, ◌+◌, ◌-◌, ◌*◌, ◌<◌, ◌≤◌, Bool, true, false, ◌&&◌, leb, ◌++◌, length, sym, ap, ◌∙◌, subst, arith, Fits-lit, le-leb}
+use Rattle.std.proofs.Common.{◌-◌, ◌*◌, ◌≤◌, ◌&&◌, leb, ◌++◌, length, sym, ap, ◌∙◌, arith, le-leb}
 use borrow.Author.Tests.{both_ways}
 use Rattle.std.proofs.lemmas.Bool.{and_from}
 use Rattle.networks.specs.Owning.{owned_meaning}
-use Rattle.grids.specs.Streets.{net, two_ways, row_site, Plan}
+use Rattle.grids.specs.Streets.{net, two_ways, row_site}
 use Rattle.grids.proofs.Pairs.{few_sites, two_ways_length}
 use Rattle.grids.proofs.Whole.{plans, is_grid}
 use Rattle.grids.proofs.street_grid.Goals as goal

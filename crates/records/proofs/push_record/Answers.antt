@@ -1,5 +1,5 @@
 -- The bytes after `push_record`, on each way out.
-use Rattle.std.proofs.Common.{◌≡◌, ℕ, ◌+◌, List, ◌++◌, length, take, vec_items, sym, refl, ap, ◌∙◌, append_assoc, append-nil, arith, length-append, rules}
+use Rattle.std.proofs.Common.{◌≡◌, ℕ, List, ◌++◌, length, take, vec_items, sym, refl, ap, ◌∙◌, append_assoc, append-nil, arith, length-append}
 use Rattle.std.proofs.lemmas.List.{take_at}
 use Rattle.records.specs.Bytes.{le16}
 use Rattle.records.proofs.push_record.Goals as goal

@@ -1,5 +1,5 @@
 -- Each link, and the end.
-use Rattle.std.proofs.Common.{◌≡◌, vec_items, refl, arith}
+use Rattle.std.proofs.Common.{vec_items, refl, arith}
 use Rattle.sheet_writing.proofs.Listing.{links_more, links_all}
 use Rattle.sheet_writing.proofs.push_links.Goals as goal
 

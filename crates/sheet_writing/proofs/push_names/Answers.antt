@@ -1,5 +1,5 @@
 -- Each name, and the end.
-use Rattle.std.proofs.Common.{◌≡◌, [], map, get_or, vec_items, sym, ◌∙◌, arith}
+use Rattle.std.proofs.Common.{[], map, get_or, vec_items, sym, ◌∙◌, arith}
 use Rattle.sheet_format.specs.Items.{name}
 use Rattle.sheet_writing.specs.Wholes.{named, names_bytes}
 use Rattle.sheet_writing.proofs.Appending.{failing}

@@ -1,5 +1,5 @@
 -- The two scans together.
-use Rattle.std.proofs.Common.{◌≡◌, ◌&&◌, [], sym, ap, ◌∙◌}
+use Rattle.std.proofs.Common.{◌&&◌, [], ap, ◌∙◌}
 use Rattle.certificates.specs.Scanning.{fronts_once}
 use Rattle.certificates.proofs.Scans.{both}
 use Rattle.certificates.proofs.limits.are_apart.Goals as goal

@@ -1,5 +1,5 @@
 -- Each turn over the front's links, and its ends.
-use Rattle.std.proofs.Common.{◌≡◌, ◌+◌, ◌||◌, get_or, sym, ap, ◌∙◌, arith}
+use Rattle.std.proofs.Common.{◌+◌, ◌||◌, get_or, sym, ap, ◌∙◌, arith}
 use Rattle.std.proofs.lemmas.List.{take_rest}
 use Rattle.certificates.specs.Limits.{among}
 use Rattle.certificates.proofs.Scans.{once_bad, once_more, once_all}

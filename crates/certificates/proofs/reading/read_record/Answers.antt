@@ -1,5 +1,5 @@
 -- What the bytes mean, on each way out.
-use Rattle.std.proofs.Common.{◌≡◌, sym, ◌∙◌}
+use Rattle.std.proofs.Common.{sym, ◌∙◌}
 use Rattle.certificates.specs.Certificates.{fields_of}
 use Rattle.certificates.specs.Calls.{held}
 use Rattle.certificates.proofs.Outcomes.{found, outside}

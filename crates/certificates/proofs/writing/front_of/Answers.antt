@@ -1,5 +1,5 @@
 -- The bytes before the routes are those of each number, in their order.
-use Rattle.std.proofs.Common.{◌≡◌, length, ap, ◌∙◌}
+use Rattle.std.proofs.Common.{length, ap, ◌∙◌}
 use Rattle.records.specs.Bytes.{le16, le32}
 use Rattle.certificates.specs.Calls.{held}
 use Rattle.certificates.proofs.Placings.{sizes, front_is}

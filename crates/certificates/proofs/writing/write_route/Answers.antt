@@ -1,5 +1,5 @@
 -- Each turn over a route's links, and its end.
-use Rattle.std.proofs.Common.{◌≡◌, ◌+◌, ◌*◌, sym, ap, ◌∙◌, arith}
+use Rattle.std.proofs.Common.{◌+◌, ◌*◌, sym, ap, ◌∙◌, arith}
 use Rattle.std.proofs.lemmas.List.{take_all}
 use Rattle.certificates.specs.Format.{route_bytes}
 use Rattle.certificates.specs.Placing.{placed}

@@ -1,6 +1,6 @@
 -- The climb goes up the tree links and ends below a site with a label.
-use Rattle.std.proofs.Common.{◌≡◌, ◌<◌, true, false, length, get_or, sym, refl, ap, ◌∙◌, subst, arith, rules}
-use Rattle.pairs.specs.Reading.{first_of, second_of}
+use Rattle.std.proofs.Common.{◌≡◌, get_or, arith}
+use Rattle.pairs.specs.Reading.{second_of}
 use Rattle.cutting.proofs.Passing.{entry_none, entry_link}
 use Rattle.cutting.proofs.Topping.{climbing_none, top_low, link_low, above_low, climbing_more, fewer, climbed}
 use Rattle.cutting.proofs.pieces.last_piece_link.Goals as goal

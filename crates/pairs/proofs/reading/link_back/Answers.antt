@@ -1,5 +1,5 @@
 -- A marked site's entry link, with the mark wiped, or another's tree link.
-use Rattle.std.proofs.Common.{◌≡◌, get_or, sym, refl, ◌∙◌}
+use Rattle.std.proofs.Common.{get_or, sym, refl, ◌∙◌}
 use Rattle.std.proofs.lemmas.List.{get_or_default}
 use Rattle.std.proofs.lemmas.Bool.{cond-true, cond-false}
 use Rattle.pairs.proofs.Backwards.{wiped_none}

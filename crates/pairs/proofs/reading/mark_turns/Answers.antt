@@ -1,8 +1,8 @@
 -- The marking: each site that it comes to has been settled in the second run.
-use Rattle.std.proofs.Common.{◌≡◌, ◌<◌, ◌≤◌, length, get_or, sym, refl, ◌∙◌, subst, arith}
-use Rattle.pairs.specs.Reading.{second_of, target_marks}
+use Rattle.std.proofs.Common.{◌<◌, refl, ◌∙◌, subst, arith}
+use Rattle.pairs.specs.Reading.{second_of}
 use Rattle.pairs.proofs.Turns.{Marking, marking_none, marking_done}
-use Rattle.pairs.proofs.Both.{labelled_settled, second_ran, Turn, turn}
+use Rattle.pairs.proofs.Both.{labelled_settled, second_ran, turn}
 use Rattle.pairs.proofs.reading.mark_turns.Goals as goal
 
 pub loop-site-init : goal.loop-site-init

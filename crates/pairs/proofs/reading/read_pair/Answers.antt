@@ -1,5 +1,5 @@
 -- The pair: both walks lead home, the first with the target's marks, the second with those that the first left.
-use Rattle.std.proofs.Common.{◌≡◌, sym, ap, ◌∙◌}
+use Rattle.std.proofs.Common.{sym, ap, ◌∙◌}
 use Rattle.pairs.specs.Reading.{target_marks, first_walk}
 use Rattle.pairs.proofs.Homes.{pair_is, first_home, second_home}
 use Rattle.pairs.proofs.reading.read_pair.Goals as goal

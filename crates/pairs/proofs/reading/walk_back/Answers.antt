@@ -1,7 +1,6 @@
 -- The walk back: each step goes over a usable link, and fewer are written than there are sites.
-use Rattle.std.proofs.Common.{◌≡◌, ℕ, ◌+◌, ◌<◌, ◌≤◌, List, length, get_or, take, drop, set, sym, refl, ap, ◌∙◌, subst, arith, length-set}
+use Rattle.std.proofs.Common.{ℕ, ◌+◌, ◌<◌, List, length, take, set, sym, ◌∙◌, subst, arith}
 use Rattle.pairs.specs.Tables.{Marked}
-use Rattle.pairs.specs.Reading.{walked_back, Home}
 use Rattle.pairs.proofs.Homeward.{At, count_low, site_low, more_low, link_low, goes_on, arrives, same_walk}
 use Rattle.pairs.proofs.reading.walk_back.Goals as goal
 

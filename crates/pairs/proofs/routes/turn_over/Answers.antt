@@ -1,5 +1,5 @@
 -- The part turned over, and what lies past it.
-use Rattle.std.proofs.Common.{◌≡◌, ◌-◌, reverse, length, take, sym, refl, ap, ◌∙◌, arith}
+use Rattle.std.proofs.Common.{◌≡◌, ◌-◌, reverse, length, take, ap, ◌∙◌, arith}
 use Rattle.std.proofs.lemmas.List.{length-reverse, length-take-le}
 use Rattle.std.proofs.lemmas.Slice.{take-put_mid, drop-put_mid}
 use Rattle.pairs.proofs.routes.turn_over.Goals as goal

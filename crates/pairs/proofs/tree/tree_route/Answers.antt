@@ -1,5 +1,5 @@
 -- The writing of a tree route: each site above is reached, and fewer links are written than there are sites.
-use Rattle.std.proofs.Common.{◌≡◌, ◌+◌, ◌<◌, ◌≤◌, length, get_or, set, sym, ◌∙◌, subst, arith}
+use Rattle.std.proofs.Common.{◌+◌, ◌<◌, length, get_or, set, sym, ◌∙◌, subst, arith}
 use Rattle.pairs.proofs.Both.{labelled_settled, first_ran}
 use Rattle.pairs.proofs.Descending.{Descends, descends_none, count_low, site_low, more_low, link_low, descends_more, descends_all}
 use Rattle.pairs.proofs.tree.tree_route.Goals as goal

@@ -1,8 +1,7 @@
 -- What holds during the search: the links before are none.
-use Rattle.std.proofs.Common.{◌≡◌, ◌-◌, ◌≤◌, length, take, drop}
+use Rattle.std.proofs.Common.{◌≡◌, ◌-◌, ◌≤◌, take, drop}
 use Rattle.least_pairs.specs.Views.{view}
 use Rattle.least_pairs.specs.Plans.{first_cut}
-use Rattle.pairs.specs.Reading.{tree_route_to}
 use Rattle.planner.proofs.cutting.cutting_link.Given as goal
 
 abbrev pub invariant-search : goal.invariant-search

@@ -1,5 +1,5 @@
 -- The refusals of a quote in their order.
-use Rattle.std.proofs.Common.{◌≡◌, ℕ, Bool, true, ◌&&◌, List, [], ◌∷◌, length, sym, refl, ap, ◌∙◌, subst, rules}
+use Rattle.std.proofs.Common.{◌≡◌, ℕ, Bool, true, ◌&&◌, [], ◌∷◌, length, sym, ◌∙◌, subst, rules}
 use Rattle.std.proofs.lemmas.Bool.{and_parts, and_from}
 use Rattle.planner.specs.Room.{all_fit, lengths_fit}
 use Rattle.planner.specs.Quotes.{two_sites, Quoted}

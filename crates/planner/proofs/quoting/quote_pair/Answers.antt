@@ -1,5 +1,5 @@
 -- The pair read is that of the answer, and the total is exact.
-use Rattle.std.proofs.Common.{◌≡◌, get_or, sym, refl, ap, ◌∙◌, subst, arith}
+use Rattle.std.proofs.Common.{◌≡◌, get_or, ◌∙◌, arith}
 use Rattle.std.proofs.lemmas.List.{get_or_default}
 use Rattle.costs.specs.Costs.{worked}
 use Rattle.pairs.specs.Reading.{first_of, second_of}

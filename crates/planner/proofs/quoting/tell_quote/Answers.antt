@@ -1,5 +1,5 @@
 -- The answer by the labels of the target.
-use Rattle.std.proofs.Common.{◌≡◌, ◌<◌, length, get_or, sym, refl, ap, ◌∙◌, subst, arith}
+use Rattle.std.proofs.Common.{◌≡◌, ◌<◌, length, get_or, refl, arith}
 use Rattle.pairs.specs.Reading.{first_of, second_of}
 use Rattle.pairs.proofs.Held.{tells_links}
 use Rattle.planner.proofs.Answering.{held_label, none_answered, cut_answered}

@@ -1,5 +1,5 @@
 -- The first run with a link left out is a run of its job.
-use Rattle.std.proofs.Common.{◌≡◌, ℕ, ◌<◌, ◌≤◌, reverse, length, take, sym, refl, ap, ◌∙◌, subst, arith}
+use Rattle.std.proofs.Common.{◌≡◌, ◌<◌, ◌≤◌, reverse, length, take, sym, subst, arith}
 use Rattle.runs.specs.Tables.{Holds}
 use Rattle.runs.specs.Turns.{Runnable}
 use Rattle.least_pairs.specs.Views.{view, without}
@@ -7,7 +7,6 @@ use Rattle.least_pairs.specs.Runs.{Job, outcome}
 use Rattle.least_pairs.specs.Plans.{first_job, first_run}
 use Rattle.stages.specs.First.{cut}
 use Rattle.planner.proofs.Runnables.{without_runnable}
-use Rattle.planner.proofs.running.first_run_without.Given as given
 use Rattle.planner.proofs.running.first_run_without.Goals as goal
 
 pub run-requires : goal.run-requires

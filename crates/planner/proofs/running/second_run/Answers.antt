@@ -1,5 +1,5 @@
 -- The second run over what the first left is a run of its job.
-use Rattle.std.proofs.Common.{◌≡◌, ℕ, ◌<◌, ◌≤◌, reverse, length, take, sym, refl, ap, ◌∙◌, subst, arith}
+use Rattle.std.proofs.Common.{◌≡◌, ◌<◌, ◌≤◌, reverse, length, take, sym, subst, arith}
 use Rattle.runs.specs.Tables.{Holds}
 use Rattle.runs.specs.Turns.{Runnable}
 use Rattle.stages.specs.declared.second.FirstRun.{FirstRun}

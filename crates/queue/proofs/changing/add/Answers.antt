@@ -1,5 +1,5 @@
 -- One more entry: what is known before it rises, and after.
-use Rattle.std.proofs.Common.{◌≡◌, ℕ, ◌+◌, ◌≤◌, cond, eqb, length, set, Some, sym, subst, add-one, arith, length-set}
+use Rattle.std.proofs.Common.{◌≡◌, ◌+◌, cond, eqb, set, Some, sym, subst, add-one, arith, length-set}
 use Rattle.queue.specs.Entries.{entry_at, among, Once}
 use Rattle.queue.specs.Heaps.{HeapAbove}
 use Rattle.queue.proofs.Writing.{Written, written_set, add_once, add_held, add_order, changed_then}

@@ -1,5 +1,5 @@
 -- An entry at another cost: what is known before it rises or sinks, and after.
-use Rattle.std.proofs.Common.{◌≡◌, ◌<◌, true, false, length, set, Some, sym, ap, ◌∙◌, subst, arith, length-set}
+use Rattle.std.proofs.Common.{◌≡◌, ◌<◌, true, false, length, set, Some, sym, ap, subst, arith, length-set}
 use Rattle.std.proofs.lemmas.List.{get_or_read}
 use Rattle.queue.specs.Entries.{entry_at, before}
 use Rattle.queue.specs.declared.entries.Entry.{Entry}

@@ -1,5 +1,5 @@
 -- Of two entries right below another, the least.
-use Rattle.std.proofs.Common.{◌≡◌, ◌+◌, ◌*◌, true, false, sym, ◌∙◌, arith}
+use Rattle.std.proofs.Common.{◌+◌, ◌*◌, false, sym, ◌∙◌, arith}
 use Rattle.queue.specs.Entries.{entry_at}
 use Rattle.queue.proofs.Rising.{least_left, read_before}
 use Rattle.queue.proofs.sifting.least_below.Goals as goal

@@ -1,5 +1,5 @@
 -- What the rise of an entry keeps.
-use Rattle.std.proofs.Common.{◌<◌, ◌≤◌, length}
+use Rattle.std.proofs.Common.{◌<◌}
 use Rattle.queue.specs.Entries.{entry_at, Rearranged}
 use Rattle.queue.specs.Heaps.{HeapAbove}
 use Rattle.queue.proofs.sifting.rise.Given as goal

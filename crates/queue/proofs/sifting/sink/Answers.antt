@@ -1,5 +1,5 @@
 -- An entry sinks: what a turn of the loop keeps, and when it ends.
-use Rattle.std.proofs.Common.{◌≡◌, ◌<◌, true, false, Some, sym, ◌∙◌, arith}
+use Rattle.std.proofs.Common.{◌≡◌, ◌<◌, true, false, Some, sym, arith}
 use Rattle.std.proofs.lemmas.List.Edits.{Swapped, swapped_from_swap}
 use Rattle.queue.specs.Entries.{entry_at, before}
 use Rattle.queue.specs.Heaps.{LeastBelow}

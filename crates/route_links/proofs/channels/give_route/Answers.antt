@@ -1,5 +1,5 @@
 -- Each link given back, and the end.
-use Rattle.std.proofs.Common.{◌≡◌, get_or, take, sym, ap, ◌∙◌, arith}
+use Rattle.std.proofs.Common.{get_or, take, sym, ap, ◌∙◌, arith}
 use Rattle.std.proofs.lemmas.List.{take_all, take_more}
 use Rattle.networks.specs.Telling.{give_after}
 use Rattle.route_links.specs.Along.{given_along}

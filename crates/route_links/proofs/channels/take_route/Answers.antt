@@ -1,5 +1,5 @@
 -- Each take is accepted, and the end.
-use Rattle.std.proofs.Common.{◌≡◌, sym, ap, ◌∙◌, arith}
+use Rattle.std.proofs.Common.{sym, ap, ◌∙◌, arith}
 use Rattle.std.proofs.lemmas.List.{take_all}
 use Rattle.route_links.specs.Along.{taken_along}
 use Rattle.route_links.proofs.Channelled.{next_take, taken_none, accepted_refused}

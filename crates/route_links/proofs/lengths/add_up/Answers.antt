@@ -1,8 +1,8 @@
 -- The sums stay within 32 bits, and grow link by link.
-use Rattle.std.proofs.Common.{◌≡◌, ℕ, ◌+◌, ◌≤◌, length, get_or, take, sym, ap, ◌∙◌, arith}
+use Rattle.std.proofs.Common.{ℕ, get_or, take, ap, ◌∙◌, arith}
 use Rattle.std.proofs.lemmas.List.{take_all, take_more}
 use Rattle.networks.specs.Meaning.{link_at}
-use Rattle.route_links.specs.Along.{summed, metres_along, poles_along}
+use Rattle.route_links.specs.Along.{metres_along, poles_along}
 use Rattle.route_links.proofs.Summing.{summed_last, summed_part, metres_low}
 use Rattle.route_links.proofs.lengths.add_up.Goals as goal
 

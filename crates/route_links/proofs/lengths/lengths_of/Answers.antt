@@ -1,5 +1,5 @@
 -- A number that is no link has no length.
-use Rattle.std.proofs.Common.{◌≡◌, sym, ap, ◌∙◌}
+use Rattle.std.proofs.Common.{sym, ◌∙◌}
 use Rattle.route_links.proofs.Summing.{no_lengths}
 use Rattle.route_links.proofs.lengths.lengths_of.Goals as goal
 

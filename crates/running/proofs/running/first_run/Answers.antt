@@ -1,5 +1,5 @@
 -- The first run over a network is a run of its job.
-use Rattle.std.proofs.Common.{◌≡◌, ℕ, ◌<◌, ◌≤◌, reverse, length, take, sym, refl, ap, ◌∙◌, subst, arith}
+use Rattle.std.proofs.Common.{◌≡◌, ◌<◌, ◌≤◌, reverse, length, take, sym, subst, arith}
 use Rattle.runs.specs.Tables.{Holds}
 use Rattle.runs.specs.Turns.{Runnable}
 use Rattle.least_pairs.specs.Views.{view}
@@ -7,7 +7,6 @@ use Rattle.least_pairs.specs.Runs.{Job, outcome}
 use Rattle.least_pairs.specs.Plans.{first_job, first_run}
 use Rattle.stages.specs.First.{cut}
 use Rattle.running.proofs.Runnables.{whole_runnable}
-use Rattle.running.proofs.running.first_run.Given as given
 use Rattle.running.proofs.running.first_run.Goals as goal
 
 pub run-requires : goal.run-requires

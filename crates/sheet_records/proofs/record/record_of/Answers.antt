@@ -1,7 +1,7 @@
 -- What `record_of` gives, by kind.
-use Rattle.std.proofs.Common.{◌≡◌, ◌-◌, true, length, take, drop, sym, refl, ap, ◌∙◌, rules}
+use Rattle.std.proofs.Common.{◌≡◌, ◌-◌, true, length, take, drop, sym, ap, ◌∙◌, rules}
 use Rattle.std.proofs.lemmas.List.{take_rest}
-use Rattle.sheet_format.specs.Items.{Item, header, name, link, bytes_of, shaped, item_of}
+use Rattle.sheet_format.specs.Items.{header, name, link, bytes_of, shaped, item_of}
 use Rattle.sheet_format.proofs.Steps.{whole_item}
 use Rattle.sheet_records.proofs.record.record_of.Goals as goal
 

@@ -1,5 +1,5 @@
 -- Each turn over a name's bytes, and its ends.
-use Rattle.std.proofs.Common.{◌≡◌, sym, refl, ap, ◌∙◌, arith}
+use Rattle.std.proofs.Common.{sym, ◌∙◌, arith}
 use Rattle.sheets.proofs.Finding.{byte_more, byte_bad, bytes_all}
 use Rattle.sheets.proofs.gathering.is_printable.Goals as goal
 

@@ -1,5 +1,5 @@
 -- The ends of the reading.
-use Rattle.std.proofs.Common.{◌≡◌, length, drop, sym, subst, rules}
+use Rattle.std.proofs.Common.{◌≡◌, length, drop, subst, rules}
 use Rattle.sheet_format.specs.Rules.{begun, broken}
 use Rattle.sheets.specs.Taking.{gathered, Blames, Finished}
 use Rattle.sheets.proofs.Going.{tells, done}

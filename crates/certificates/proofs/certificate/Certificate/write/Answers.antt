@@ -1,5 +1,5 @@
 -- The front and the two routes, put one after the other, are the certificate's bytes.
-use Rattle.std.proofs.Common.{◌≡◌, sym, refl, ◌∙◌, arith}
+use Rattle.std.proofs.Common.{sym, refl, ◌∙◌, arith}
 use Rattle.certificates.specs.Format.{certificate_bytes}
 use Rattle.certificates.specs.Calls.{held}
 use Rattle.certificates.proofs.Back.{fitting}

@@ -1,6 +1,5 @@
 -- A new layer has nothing closed, and shows what lies below.
-use Rattle.std.proofs.Common.{false, refl, ap, ◌∙◌}
-use Rattle.layers.specs.Shown.{closing}
+use Rattle.std.proofs.Common.{false, refl}
 use Rattle.layers.proofs.Bare.{nothing_closed}
 use Rattle.layers.proofs.Tables.{one_value}
 use Rattle.layers.proofs.closed.Closing.over.Goals as goal

@@ -1,5 +1,5 @@
 -- A closed link shows as dark, any other as below.
-use Rattle.std.proofs.Common.{◌≡◌, not, ◌&&◌, Err, sym, refl, ap, ◌∙◌}
+use Rattle.std.proofs.Common.{not, ◌&&◌, Err, sym, ap, ◌∙◌}
 use Rattle.std.proofs.lemmas.Result.{err_from_is_err_and}
 use Rattle.networks.proofs.Layering.{told_changed, told_with, told_refused}
 use Rattle.layers.specs.Shown.{marks, closing}

@@ -1,5 +1,5 @@
 -- The amount is added to the metres, and the sum cut off.
-use Rattle.std.proofs.Common.{◌≡◌, ℕ, ◌+◌, ◌≤◌, min, Ok, Err, sym, refl, ap, ◌∙◌, arith}
+use Rattle.std.proofs.Common.{◌≡◌, ◌+◌, min, Ok, Err, sym, ap, ◌∙◌, arith}
 use Rattle.std.proofs.lemmas.Result.{err_from_is_err_and}
 use Rattle.networks.specs.Telling.{lengths}
 use Rattle.networks.proofs.Layering.{told_changed, told_with, told_refused}

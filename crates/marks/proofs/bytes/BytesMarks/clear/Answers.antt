@@ -1,5 +1,5 @@
 -- All bytes are zero, so no site is marked.
-use Rattle.std.proofs.Common.{◌≡◌, ℕ, List, length, replicate, sym, ap, ◌∙◌}
+use Rattle.std.proofs.Common.{◌≡◌, length, replicate, ap, ◌∙◌}
 use Rattle.marks.specs.Sets.{in_bytes}
 use Rattle.marks.proofs.Tables.{all_zero}
 use Rattle.marks.proofs.bytes.BytesMarks.clear.Goals as goal

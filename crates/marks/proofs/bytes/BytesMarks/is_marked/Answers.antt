@@ -1,5 +1,5 @@
 -- Past the end of the table no site is marked.
-use Rattle.std.proofs.Common.{◌≡◌, ◌≤◌, length, sym, ◌∙◌, arith}
+use Rattle.std.proofs.Common.{◌≤◌, length, sym, ◌∙◌, arith}
 use Rattle.std.proofs.lemmas.Bool.{le-ltb}
 use Rattle.marks.proofs.Tables.{past_end}
 use Rattle.marks.proofs.bytes.BytesMarks.is_marked.Goals as goal

@@ -1,7 +1,6 @@
 -- A sound link more leaves the network sound.
-use Rattle.std.proofs.Common.{◌≡◌, ℕ, ◌+◌, ◌≤◌, Bool, true, false, cond, List, [], ◌∷◌, ◌++◌, is_ok, vec_items, vec_len, sym, ◌∙◌, subst, arith}
+use Rattle.std.proofs.Common.{◌≡◌, ◌+◌, ◌≤◌, true, [], ◌∷◌, ◌++◌, is_ok, vec_items, vec_len, sym, ◌∙◌, subst, arith}
 use Rattle.std.proofs.lemmas.Bool.{cond_both}
-use Rattle.networks.specs.declared.model.Link.{Link}
 use Rattle.networks.specs.Meaning.{all_sound}
 use Rattle.networks.proofs.Soundness.{sound_push}
 use Rattle.networks.proofs.owned.OwnedNetwork.add.Goals as goal

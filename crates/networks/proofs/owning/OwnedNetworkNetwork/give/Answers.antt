@@ -1,11 +1,10 @@
 -- An accepted give: the link that is written is the link told, with one channel fewer taken.
-use Rattle.std.proofs.Common.{◌≡◌, ℕ, ◌+◌, ◌-◌, ◌<◌, ◌≤◌, true, length, set, vec_items, vec_len, sym, ap, ◌∙◌, subst, arith, length-set}
+use Rattle.std.proofs.Common.{◌≡◌, ◌-◌, ◌<◌, ◌≤◌, true, vec_items, sym, ap, ◌∙◌, subst, arith}
 use Rattle.std.proofs.lemmas.Bool.{false≢true}
-use Rattle.networks.specs.declared.model.Link.{Link}
-use Rattle.networks.specs.Meaning.{Net, link_at, link_sound, all_sound, no_link}
+use Rattle.networks.specs.Meaning.{link_at, link_sound, no_link}
 use Rattle.networks.specs.Changing.{cleared, retaken}
 use Rattle.networks.specs.Owning.{owned_meaning}
-use Rattle.networks.proofs.Soundness.{Limits, limits, sound_at, sound_set, sound_retaken}
+use Rattle.networks.proofs.Soundness.{limits, sound_at, sound_set, sound_retaken}
 use Rattle.networks.proofs.Taking.{told_inside, give_accepted, give_leaves, written, cleared_only}
 use Rattle.networks.proofs.owning.OwnedNetworkNetwork.give.Goals as goal
 

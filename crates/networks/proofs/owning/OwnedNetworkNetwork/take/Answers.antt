@@ -1,8 +1,7 @@
 -- An accepted take: the link that is written is the link told, with one channel more taken.
-use Rattle.std.proofs.Common.{◌≡◌, ℕ, ◌+◌, ◌<◌, ◌≤◌, true, ltb, length, set, vec_items, vec_len, sym, ap, ◌∙◌, subst, arith, length-set, ltb-true}
+use Rattle.std.proofs.Common.{◌≡◌, ◌+◌, ◌<◌, ◌≤◌, true, ltb, vec_items, sym, ap, ◌∙◌, subst, arith, ltb-true}
 use Rattle.std.proofs.lemmas.Bool.{and_parts, false≢true}
-use Rattle.networks.specs.declared.model.Link.{Link}
-use Rattle.networks.specs.Meaning.{Net, link_at, link_sound, all_sound, usable, no_link}
+use Rattle.networks.specs.Meaning.{link_at, link_sound, usable, no_link}
 use Rattle.networks.specs.Changing.{cleared, retaken}
 use Rattle.networks.specs.Owning.{owned_meaning}
 use Rattle.networks.proofs.Soundness.{sound_at, sound_set, sound_retaken}

@@ -1,5 +1,4 @@
 -- The least is taken: what is known after.
-use Rattle.std.proofs.Common.{◌≡◌}
 use Rattle.queue.proofs.Soundness.{took_is}
 use Rattle.queue.proofs.queues.Queue.take_least.Goals as goal
 

@@ -1,5 +1,5 @@
 -- Each turn of the search, and its ends.
-use Rattle.std.proofs.Common.{◌≡◌, map, sym, refl, ap, ◌∙◌, arith}
+use Rattle.std.proofs.Common.{map, sym, ap, ◌∙◌, arith}
 use Rattle.sheets.specs.Naming.{entry_of, name_of}
 use Rattle.sheets.proofs.Finding.{hit, miss, gone}
 use Rattle.sheets.proofs.names.Names.name.Goals as goal

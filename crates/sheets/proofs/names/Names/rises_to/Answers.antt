@@ -1,5 +1,5 @@
 -- The last entry has the highest site so far.
-use Rattle.std.proofs.Common.{◌≡◌, leb, map, length, sym, refl, ap, ◌∙◌, arith}
+use Rattle.std.proofs.Common.{leb, map, length, sym, ap, ◌∙◌, arith}
 use Rattle.std.proofs.lemmas.Bool.{eqb-true, eqb-false}
 use Rattle.sheet_format.specs.Rules.{next_site}
 use Rattle.sheets.specs.Naming.{entry_of}
