@@ -1,4 +1,4 @@
--- The definitions that the contracts of the cost kinds cite.
+-- The definitions that the contracts of the cost kinds cite, and the lemmas that a law in src/ names (PairLaws).
 pub mod Links
 pub mod Costs
 pub mod Lengths

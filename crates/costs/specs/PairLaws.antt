@@ -1,4 +1,4 @@
--- A pair that is compared by its first part is a lawful cost kind.
+-- A pair that is compared by its first part is a lawful cost kind: proved, and named by the laws of src/ alone.
 use Rattle.std.specs.Prelude.{◌≡◌, ℕ, ◌+◌, ◌<◌, ◌≤◌, max, true, false, cond, leb, ℤ, pos, ◌+ℤ◌, neg_ℤ, nat_le, unsigned_abs, refl}
 use Rattle.std.proofs.Common.{sym, ap, subst, ◌∙◌, arith}
 use Rattle.std.proofs.Math.IntN.{+ℤ_assoc, +ℤ_comm, +ℤ_idl, +ℤ_invr}

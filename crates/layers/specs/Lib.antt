@@ -1,4 +1,4 @@
--- What the contracts cite: what layers show and refuse.
+-- What the contracts cite: what layers show and refuse; and the lemma that a law in src/ names (SurchargeLaws).
 pub mod Shown
 pub mod Refusing
-pub mod SurchargeIsNetworkLemmas
+pub mod SurchargeLaws

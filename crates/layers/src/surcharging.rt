@@ -4,7 +4,7 @@ ghost use Rattle.std.proofs.Common.{◌∙◌, ap, rules};
 ghost use Rattle.layers.specs.Shown.{amounts, charged_over, charging};
 ghost use Rattle.layers.specs.Refusing.{surcharge_answer};
 ghost use Rattle.networks.proofs.Layering.{sound_changed, alike_changed};
-ghost use Rattle.layers.specs.SurchargeIsNetworkLemmas.{sound_charged};
+ghost use Rattle.layers.specs.SurchargeLaws.{sound_charged};
 ghost use Rattle.networks.specs.Changing.{cleared};
 
 use crate::refusing::SurchargeRefusal;

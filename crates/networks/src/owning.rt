@@ -4,7 +4,7 @@ ghost use Rattle.networks.specs.Meaning.{link_sound};
 ghost use Rattle.networks.specs.Changing.{cleared};
 ghost use Rattle.networks.specs.Owning.{owned_meaning, Begun, Added};
 ghost use Rattle.networks.specs.Telling.{told};
-ghost use Rattle.std.proofs.Common.{rules, arith};
+ghost use Rattle.std.proofs.Common.{rules};
 
 use crate::building::BuildRefusal;
 use crate::model::{Link, NetworkRefusal};
@@ -58,13 +58,13 @@ impl Network for OwnedNetwork {
 
     ghost kept = { λ a b. cleared (owned_meaning a) ≡ cleared (owned_meaning b) };
 
-    ghost sound = { first_of (Prim.search rules, Prim.grind (arith, Self.row.coded.inj)) };
+    ghost sound = { Prim.search rules };
 
-    ghost reflexive = { first_of (Prim.search rules, Prim.grind (arith, Self.row.coded.inj)) };
+    ghost reflexive = { Prim.search rules };
 
-    ghost transitive = { first_of (Prim.search rules, Prim.grind (arith, Self.row.coded.inj)) };
+    ghost transitive = { Prim.search rules };
 
-    ghost alike = { first_of (Prim.search rules, Prim.grind (arith, Self.row.coded.inj)) };
+    ghost alike = { Prim.search rules };
 
     fn sites(&self) -> u16 {
         self.sites

@@ -36,10 +36,10 @@ stands f zero s = inr (λ i h e. omega arith)
 stands f (suc n) s =
     elim (cases_eq (f n).site s) [
       | inl here ↦ inl (n, omega arith, here)
-      | inr not-here ↦ elim (stands f n s) [
+      | inr not_here ↦ elim (stands f n s) [
         | inl p ↦ inl (p.0, omega (arith, p.1), p.2)
         | inr away ↦ inr (λ i h e. elim (cases_eq i n) [
-          | inl same ↦ not-here (ap (λ j. (f j).site) (sym same) ∙ e)
+          | inl same ↦ not_here (ap (λ j. (f j).site) (sym same) ∙ e)
           | inr other ↦ away i (omega arith) e
         ])
       ]

@@ -1,3 +1,4 @@
+-- The lemma by which a surcharge layer keeps the law of sound links: proved, and named by the law of src/ alone.
 use Rattle.std.specs.Prelude.{◌≡◌, ℕ, ◌+◌, ◌≤◌, min, true}
 use Rattle.std.proofs.Common.{arith}
 use Rattle.networks.specs.declared.model.Link.{Link}
