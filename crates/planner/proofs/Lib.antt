@@ -1,6 +1,0 @@
--- Lemmas of the planner.
-pub mod Runnables
-pub mod Searching
-pub mod Reached
-pub mod Answering
-pub mod Testing
