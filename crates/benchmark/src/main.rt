@@ -19,21 +19,17 @@ use std::{env, fs};
 
 // The bytes of a network's sheet.
 fn sheet_of(rt: &HostRuntime, case: Case) -> anyhow::Result<Vec<u8>> {
-    match case.sheet(rt.alloc()) {
-        Ok(bytes) => Ok(bytes),
-        Err(_) => Err(anyhow!("there is no memory for a sheet")),
-    }
+    case.sheet(rt.alloc())
+        .map_err(|_| anyhow!("there is no memory for a sheet"))
 }
 
 // What a survey of a network comes to.
 fn tally_of(network: &OwnedNetwork) -> anyhow::Result<Tally> {
-    match tally(network) {
-        Ok(tally) => Ok(tally),
-        Err(_) => Err(anyhow!("a survey was refused")),
-    }
+    tally(network).map_err(|_| anyhow!("a survey was refused"))
 }
 
 // Prints what a survey came to.
+// A line of several values; the tally prints itself.
 fn print_tally(
     rt: &HostRuntime,
     name: &str,
@@ -42,15 +38,7 @@ fn print_tally(
 ) -> anyhow::Result<()> {
     let sites = network.sites();
     let links = network.links();
-    let Tally {
-        pairs,
-        cuts,
-        none,
-        checksum,
-    } = tally;
-    println!(rt;
-        "{name}: sites {sites} links {links} pairs {pairs} cuts {cuts} none {none} checksum {checksum:016x}"
-    )?;
+    println!(rt; "{name}: sites {sites} links {links} {tally}")?;
     Ok(())
 }
 
@@ -70,7 +58,7 @@ fn time_of(
     Ok(start.elapsed(rt)?)
 }
 
-// Prints the milliseconds of one survey.
+// Prints the milliseconds of one survey: a line of several values, of which a span of time prints itself in other units.
 fn print_time(rt: &HostRuntime, name: &str, each: Duration) -> anyhow::Result<()> {
     let nanos = each.as_nanos();
     let whole = nanos / 1_000_000;
@@ -104,6 +92,7 @@ fn write_sheet(rt: &HostRuntime, case: Case, folder: &str) -> anyhow::Result<()>
     Ok(())
 }
 
+// Two loops of one line, here and below: one that is passed the step would be longer than both.
 fn measure_all(rt: &HostRuntime, repeats: u32) -> anyhow::Result<()> {
     for case in Case::ALL {
         measure(rt, case, repeats)?;

@@ -1,6 +1,6 @@
 //! How the sheet of each benchmark network is made.
 use crate::numbers::Numbers;
-use grids::street_grid;
+use grids::{GridPlan, street_grid};
 use networks::model::Link;
 use networks::network::Network;
 use records::WriteFault;
@@ -9,15 +9,7 @@ use std::alloc::Global;
 
 // A lit link of so many metres, none of them on poles, with one channel.
 fn link(start: u16, end: u16, metres: u32) -> Link {
-    Link {
-        start,
-        end,
-        metres,
-        poles: 0,
-        channels: 1,
-        taken: 0,
-        lit: true,
-    }
+    Link::lit(start, end, metres, 0, 1)
 }
 
 // A link between two of 256 sites, of 100 to 8,291 metres.
@@ -50,14 +42,8 @@ fn sheet_of<N: Network>(heap: Global, network: &N) -> Result<Vec<u8>, WriteFault
     let mut out = Vec::new(heap);
     push_header(&mut out, network.sites(), network.links())?;
     for number in 0..network.links() {
-        let (start, end) = match network.ends(number) {
-            Ok(ends) => ends,
-            Err(_) => unreachable(),
-        };
-        let (metres, _) = match network.lengths(number) {
-            Ok(lengths) => lengths,
-            Err(_) => unreachable(),
-        };
+        let (start, end) = network.ends(number).unwrap();
+        let (metres, _) = network.lengths(number).unwrap();
         push_link(&mut out, link(start, end, metres))?;
     }
     Ok(out)
@@ -65,10 +51,15 @@ fn sheet_of<N: Network>(heap: Global, network: &N) -> Result<Vec<u8>, WriteFault
 
 /// The street grid of 16 columns and 16 rows, with streets of 100 metres along the rows and of 150 across.
 pub fn grid(heap: Global) -> Result<Vec<u8>, WriteFault> {
-    match street_grid(heap, 16, 16, 100, 150, 1) {
-        Ok(network) => sheet_of(heap, &network),
-        Err(_) => Err(WriteFault::Memory),
-    }
+    let plan = GridPlan {
+        columns: 16,
+        rows: 16,
+        along: 100,
+        across: 150,
+        channels: 1,
+    };
+    let network = street_grid(heap, plan).map_err(|_| WriteFault::Memory)?;
+    sheet_of(heap, &network)
 }
 
 /// A chain of 128 sites, each joined to the next by two links, with one more site behind each over a single link.

@@ -1,5 +1,6 @@
 //! What the outcomes of a survey come to.
 use costs::Length;
+use std::fmt;
 use surveys::Outcome;
 
 /// How many sites have a pair, a cutting link and no route, and a checksum of all outcomes in order.
@@ -50,5 +51,20 @@ impl Tally {
                 self.join(u64::from(link));
             }
         }
+    }
+}
+
+impl fmt::Display for Tally {
+    fn fmt<W: fmt::Write>(&self, f: &mut fmt::Formatter<W>) -> fmt::Result {
+        let Tally {
+            pairs,
+            cuts,
+            none,
+            checksum,
+        } = *self;
+        write!(
+            f,
+            "pairs {pairs} cuts {cuts} none {none} checksum {checksum:016x}"
+        )
     }
 }

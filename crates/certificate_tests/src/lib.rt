@@ -1,12 +1,15 @@
 //! Tests of certificates: every truncation, every limit, the order of the checks, and a certificate that is written and read again.
 #![tactic(auto)]
 
+ghost use Rattle.std.specs.Prelude.{◌≤◌};
+
 #[cfg(test)]
 mod tests {
     use certificates::certificate::Certificate;
+    use certificates::faults::{CertificateFault, CertificateRefusal};
     use certificates::fields::CertificateFields;
     use certificates::reading::read;
-    use refusals::Carried;
+    use refusals::{Carried, Refusal};
     use std::alloc::{AllocError, Global};
     use std::test::Fail;
 
@@ -16,79 +19,48 @@ mod tests {
         0, 4, 0, 6, 0,
     ];
 
-    // The number of the fault that reading some bytes comes to, and whether it tells the place 0; 0 for a certificate, 255 for want of memory.
-    fn told(heap: Global, bytes: &[u8]) -> (u8, bool) {
-        let Err(fault) = read(heap, bytes) else {
-            return (0, false);
-        };
-        let Some(refusal) = fault.refusal() else {
-            return (255, false);
-        };
-        match refusal.value() {
-            Carried::Place(place) => (refusal.number(), place == 0),
-            _ => (refusal.number(), false),
-        }
+    // The number of the refusal that reading some bytes comes to, and the value that comes with it; none for a certificate and for want of memory.
+    fn told(heap: Global, bytes: &[u8]) -> Option<(u8, Carried)> {
+        let fault = read(heap, bytes).err()?;
+        let refusal = Refusal::try_from(fault).ok()?;
+        Some((refusal.number(), refusal.value()))
     }
 
     // Whether the bytes read as a certificate.
     fn is_read(heap: Global, bytes: &[u8]) -> bool {
-        told(heap, bytes) == (0, false)
+        read(heap, bytes).is_ok()
     }
 
     // Whether the bytes are refused by this rule of the first two, at the place 0.
     fn is_refused(heap: Global, bytes: &[u8], number: u8) -> bool {
-        told(heap, bytes) == (number, true)
+        told(heap, bytes) == Some((number, Carried::Place(0)))
     }
 
     // Whether a field of the bytes is outside its limits.
     fn is_outside(heap: Global, bytes: &[u8]) -> bool {
-        told(heap, bytes) == (19, false)
+        told(heap, bytes) == Some((19, Carried::Nothing))
     }
 
     // The example with two other bytes at a place.
-    fn altered(place: usize, number: u16) -> [u8; 34] {
+    fn altered(place: usize, number: u16) -> [u8; 34]
+        requires { place ≤ 32 }
+    {
         let mut bytes = EXAMPLE;
-        if place < 33 {
-            let [low, high] = number.to_le_bytes();
-            bytes[place] = low;
-            bytes[place + 1] = high;
-        }
+        bytes[place..place + 2].copy_from_slice(&number.to_le_bytes());
         bytes
-    }
-
-    // Whether the example with another number at a place reads as a certificate.
-    fn is_read_with(heap: Global, place: usize, number: u16) -> bool {
-        is_read(heap, &altered(place, number))
-    }
-
-    // Whether the example with another number at a place has a field outside its limits.
-    fn is_outside_with(heap: Global, place: usize, number: u16) -> bool {
-        is_outside(heap, &altered(place, number))
     }
 
     // The example with other metres and pole metres.
     fn measured(metres: u32, poles: u32) -> [u8; 34] {
         let mut bytes = EXAMPLE;
-        let [a, b, c, d] = metres.to_le_bytes();
-        bytes[10] = a;
-        bytes[11] = b;
-        bytes[12] = c;
-        bytes[13] = d;
-        let [e, f, g, h] = poles.to_le_bytes();
-        bytes[14] = e;
-        bytes[15] = f;
-        bytes[16] = g;
-        bytes[17] = h;
+        bytes[10..14].copy_from_slice(&metres.to_le_bytes());
+        bytes[14..18].copy_from_slice(&poles.to_le_bytes());
         bytes
     }
 
     // So many links from one on.
     fn links(heap: Global, first: u16, count: u16) -> Result<Vec<u16>, AllocError> {
-        let mut route = Vec::new(heap);
-        for step in 0..count {
-            route.push(first.wrapping_add(step))?;
-        }
-        Ok(route)
+        (first..first.wrapping_add(count)).collect(heap)
     }
 
     // The example's fields with other routes.
@@ -104,25 +76,20 @@ mod tests {
         }
     }
 
-    // The number of the refusal of routes of so many links; 0 where they make a certificate.
-    fn made(heap: Global, one: u16, two: u16) -> Result<u8, AllocError> {
+    // The number of the refusal of routes of so many links; none where they make a certificate.
+    fn refused(heap: Global, one: u16, two: u16) -> Result<Option<u8>, AllocError> {
         let first = links(heap, 0, one)?;
         let second = links(heap, 1000, two)?;
-        match Certificate::new(fields(first, second)) {
-            Ok(_) => Ok(0),
-            Err(refusal) => Ok(refusal.number()),
-        }
+        let refusal = Certificate::new(fields(first, second)).err();
+        Ok(refusal.map(|refusal| Refusal::from(refusal).number()))
     }
 
     #[test]
     fn truncations(rt: HostRuntime) {
         let heap = rt.alloc();
-        let mut refused = 0u8;
-        for cut in 0..34 {
-            if is_refused(heap, &EXAMPLE[0..cut], 1) {
-                refused = refused.wrapping_add(1);
-            }
-        }
+        let refused = (0..34)
+            .filter(|cut| is_refused(heap, &EXAMPLE[0..*cut], 1))
+            .count();
         assert_eq!(rt; refused, 34);
         assert!(rt; is_read(heap, &EXAMPLE));
     }
@@ -180,15 +147,15 @@ mod tests {
     fn within_limits(rt: HostRuntime) {
         let heap = rt.alloc();
         let right = [
-            is_read_with(heap, 4, 1),
-            is_read_with(heap, 4, 32),
-            is_read_with(heap, 6, 255),
-            is_read_with(heap, 8, 255),
+            is_read(heap, &altered(4, 1)),
+            is_read(heap, &altered(4, 32)),
+            is_read(heap, &altered(6, 255)),
+            is_read(heap, &altered(8, 255)),
             is_read(heap, &measured(2, 2)),
             is_read(heap, &measured(510_000_000, 510_000_000)),
             is_read(heap, &measured(800, 0)),
-            is_read_with(heap, 22, 2047),
-            is_read_with(heap, 32, 2047),
+            is_read(heap, &altered(22, 2047)),
+            is_read(heap, &altered(32, 2047)),
         ];
         assert_eq!(rt; right, [true; 9]);
     }
@@ -197,20 +164,20 @@ mod tests {
     fn outside_limits(rt: HostRuntime) {
         let heap = rt.alloc();
         let right = [
-            is_outside_with(heap, 4, 0),
-            is_outside_with(heap, 4, 33),
-            is_outside_with(heap, 6, 256),
-            is_outside_with(heap, 8, 256),
-            is_outside_with(heap, 8, 0),
+            is_outside(heap, &altered(4, 0)),
+            is_outside(heap, &altered(4, 33)),
+            is_outside(heap, &altered(6, 256)),
+            is_outside(heap, &altered(8, 256)),
+            is_outside(heap, &altered(8, 0)),
             is_outside(heap, &measured(1, 0)),
             is_outside(heap, &measured(510_000_001, 0)),
             is_outside(heap, &measured(800, 801)),
-            is_outside_with(heap, 22, 2048),
-            is_outside_with(heap, 32, 2048),
+            is_outside(heap, &altered(22, 2048)),
+            is_outside(heap, &altered(32, 2048)),
             // a link twice in the first route, in the second, and across the two
-            is_outside_with(heap, 22, 5),
-            is_outside_with(heap, 28, 6),
-            is_outside_with(heap, 32, 5),
+            is_outside(heap, &altered(22, 5)),
+            is_outside(heap, &altered(28, 6)),
+            is_outside(heap, &altered(32, 5)),
         ];
         assert_eq!(rt; right, [true; 13]);
     }
@@ -218,12 +185,12 @@ mod tests {
     #[test]
     fn counts(rt: HostRuntime) -> Result<(), Fail> {
         let heap = rt.alloc();
-        assert_eq!(rt; made(heap, 1, 255)?, 0);
-        assert_eq!(rt; made(heap, 255, 1)?, 0);
-        assert_eq!(rt; made(heap, 256, 1)?, 19);
-        assert_eq!(rt; made(heap, 1, 256)?, 19);
-        assert_eq!(rt; made(heap, 0, 1)?, 19);
-        assert_eq!(rt; made(heap, 1, 0)?, 19);
+        assert_eq!(rt; refused(heap, 1, 255)?, None);
+        assert_eq!(rt; refused(heap, 255, 1)?, None);
+        assert_eq!(rt; refused(heap, 256, 1)?, Some(19));
+        assert_eq!(rt; refused(heap, 1, 256)?, Some(19));
+        assert_eq!(rt; refused(heap, 0, 1)?, Some(19));
+        assert_eq!(rt; refused(heap, 1, 0)?, Some(19));
         Ok(())
     }
 
@@ -259,8 +226,26 @@ mod tests {
         let Err(refusal) = certificate.write(&mut buffer) else {
             return Err(Fail::new("a buffer that is too short"));
         };
-        assert_eq!(rt; refusal.number(), 18);
+        assert_eq!(rt; Refusal::from(refusal).number(), 18);
         assert_eq!(rt; buffer, [9; 33]);
+        Ok(())
+    }
+
+    #[test]
+    fn in_words(rt: HostRuntime) -> Result<(), Fail> {
+        let heap = rt.alloc();
+        let cut_short = format!(in heap; "{}", CertificateFault::CutShort { place: 0 })?;
+        assert_eq!(rt;
+            cut_short.as_str(),
+            "fewer than 4 bytes are left, or the payload is cut short"
+        );
+        let memory = format!(in heap; "{}", CertificateFault::Memory)?;
+        assert_eq!(rt; memory.as_str(), "memory is wanting");
+        let too_short = format!(in heap; "{}", CertificateRefusal::BufferTooShort)?;
+        assert_eq!(rt;
+            too_short.as_str(),
+            "the buffer is too short for this certificate"
+        );
         Ok(())
     }
 }

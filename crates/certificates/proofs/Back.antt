@@ -1,13 +1,14 @@
 -- The bytes of a certificate give its fields back.
-use Rattle.std.proofs.Common.{◌≡◌, ℕ, ◌+◌, ◌*◌, ◌<◌, ◌≤◌, true, false, not, ◌&&◌, eqb, ltb, leb, List, [], ◌∷◌, ◌++◌, length, drop, sym, ap, ◌∙◌, append-nil, arith}
+use Rattle.std.proofs.Common.{◌≡◌, ℕ, ◌+◌, ◌*◌, ◌<◌, true, false, ltb, List, [], ◌∷◌, ◌++◌, length, drop, sym, ap, ◌∙◌, append-nil, arith}
 use Rattle.std.specs.List.{AllByRecursion as All}
 use Rattle.std.proofs.lemmas.List.{length-append, drop-drop, drop_at}
-use Rattle.std.proofs.lemmas.Bool.{and_from, and_parts, eq-eqb, le-leb, leb-true, ltb-true}
+use Rattle.std.proofs.lemmas.Bool.Decides.{nat_tests}
+use Rattle.std.proofs.lemmas.Bool.{and_from, and_parts, eq-eqb, le-leb, ltb-true}
 use Rattle.records.specs.Bytes.{cut_short, payload_of, rest_of}
 use Rattle.records.proofs.Numbers.{of_le16, of_le32}
 use Rattle.records.proofs.Round.{whole_again, kind_again, payload_again, rest_again}
 use Rattle.certificates.specs.Format.{Fields, route_bytes, payload, certificate_bytes, count_one, count_two, links_in, fields_in, right_length, right_shape}
-use Rattle.certificates.specs.Limits.{circuit_sound, sites_sound, metres_sound, count_sound, links_sound, route_sound, none_twice, routes_sound, within, Fitting}
+use Rattle.certificates.specs.Limits.{links_sound, within, Fitting}
 use Rattle.certificates.proofs.Routes.{length_route, links_back}
 
 pub length_payload : (f : Fields) → length (payload f) ≡ 18 + 2 * (length f.one + length f.two)
@@ -72,51 +73,15 @@ links_low : (ks : List ℕ) → links_sound ks ≡ true → All (λ k. k < 65536
 links_low [] h = tt
 links_low (k ∷ ks) h = let p = and_parts (ltb k 2048) (links_sound ks) h in (omega (arith, ltb-true k 2048 p.0), links_low ks p.1)
 
--- the limits, one by one
-pub record Limits (f : Fields) : Type 0 where
-  pub circuit : f.circuit ≤ 32
-  pub root : f.root < 256
-  pub target : f.target < 256
-  pub metres : f.metres ≤ 510000000
-  pub poles : f.poles ≤ f.metres
-  pub count_one : length f.one ≤ 255
-  pub count_two : length f.two ≤ 255
-  pub links_one : links_sound f.one ≡ true
-  pub links_two : links_sound f.two ≡ true
-
-pub limits : (f : Fields) → within f ≡ true → Limits f
-limits f h =
-    let p = and_parts (circuit_sound f.circuit) (sites_sound f.root f.target && (metres_sound f.metres f.poles && routes_sound f.one f.two)) h in
-    let q = and_parts (sites_sound f.root f.target) (metres_sound f.metres f.poles && routes_sound f.one f.two) p.1 in
-    let s = and_parts (metres_sound f.metres f.poles) (routes_sound f.one f.two) q.1 in
-    let t = and_parts (leb f.metres 510000000) (leb f.poles f.metres) (and_parts (leb 2 f.metres) (leb f.metres 510000000 && leb f.poles f.metres) s.0).1 in
-    let u = and_parts (ltb f.root 256) (ltb f.target 256 && not (eqb f.root f.target)) q.0 in
-    let r = and_parts (route_sound f.one) (route_sound f.two && none_twice (f.one ++ f.two)) s.1 in
-    let one = and_parts (count_sound (length f.one)) (links_sound f.one) r.0 in
-    let two = and_parts (count_sound (length f.two)) (links_sound f.two) (and_parts (route_sound f.two) (none_twice (f.one ++ f.two)) r.1).0 in
-    record {
-      circuit = leb-true _ _ (and_parts (leb 1 f.circuit) (leb f.circuit 32) p.0).1;
-      root = ltb-true _ _ u.0;
-      target = ltb-true _ _ (and_parts (ltb f.target 256) (not (eqb f.root f.target)) u.1).0;
-      metres = leb-true _ _ t.0;
-      poles = leb-true _ _ t.1;
-      count_one = leb-true _ _ (and_parts (leb 1 (length f.one)) (leb (length f.one) 255) one.0).1;
-      count_two = leb-true _ _ (and_parts (leb 1 (length f.two)) (leb (length f.two) 255) two.0).1;
-      links_one = one.1;
-      links_two = two.1;
-    }
-
 -- fields within the limits fit the format
 pub fitting : (f : Fields) → within f ≡ true → Fitting f
-fitting f h =
-    let l = limits f h in
-    record {
-      circuit = omega arith;
-      root = omega arith;
-      target = omega arith;
-      metres = omega arith;
-      poles = omega arith;
-      one = links_low f.one l.links_one;
-      two = links_low f.two l.links_two;
-      size = omega arith;
-    }
+fitting f h = record {
+  circuit = grind (arith, nat_tests);
+  root = grind (arith, nat_tests);
+  target = grind (arith, nat_tests);
+  metres = grind (arith, nat_tests);
+  poles = grind (arith, nat_tests);
+  one = links_low f.one (grind (arith, nat_tests));
+  two = links_low f.two (grind (arith, nat_tests));
+  size = grind (arith, nat_tests);
+}

@@ -4,5 +4,6 @@ pub mod Routes
 pub mod Back
 pub mod Forth
 pub mod Outcomes
-pub mod Placings
+pub mod Buffers
+pub mod Payload
 pub mod Gives

@@ -1,11 +1,11 @@
 -- All bytes mean one thing, and different fields have different bytes.
-use Rattle.std.proofs.Common.{◌≡◌, ℕ, ◌<◌, true, false, ◌&&◌, eqb, List, length, get_or, sym, refl, ap, ◌∙◌}
-use Rattle.std.proofs.lemmas.Bool.{both_ways}
-use Rattle.records.specs.Bytes.{cut_short, payload_of, First}
+use Rattle.std.proofs.Common.{◌≡◌, ℕ, ◌<◌, true, false, List, get_or, inl, inr, sym, refl, ap, ◌∙◌}
+use Rattle.std.proofs.lemmas.Bool.{both_ways, cases_Bool}
+use Rattle.records.specs.Bytes.{cut_short, payload_of}
 use Rattle.records.proofs.Cutting.{Bytes}
-use Rattle.certificates.specs.Format.{Fields, certificate_bytes, fields_in, right_length, right_shape}
+use Rattle.certificates.specs.Format.{Fields, certificate_bytes, fields_in, right_shape}
 use Rattle.certificates.specs.Limits.{within, Fitting}
-use Rattle.certificates.specs.Meaning.{whole_record, certificate_shape, field_limits, Outcome, certificate, fault, Outside, Means}
+use Rattle.certificates.specs.Meaning.{whole_record, certificate_shape, field_limits, Outcome, certificate, fault, Means}
 use Rattle.certificates.proofs.Back.{whole_back, shape_back, fields_back, fitting}
 use Rattle.certificates.proofs.Forth.{bytes_are, fields_fit}
 
@@ -54,29 +54,15 @@ module _ (bytes : List ℕ) (typed : Bytes bytes) (whole_is : cut_short bytes �
 
 pub total : (bytes : List ℕ) → ((i : ℕ) → get_or bytes i 0 < 256) → (x : Outcome) × Means bytes x
 total bytes low =
+    let f = fields_in (payload_of bytes) in
     let typed : Bytes bytes = λ i. record { fits = low i } in
-    (elim (cut_short bytes) as (λ b. cut_short bytes ≡ b → (x : Outcome) × Means bytes x) [
-      | true ↦ λ h. (fault whole_record, h)
-      | false ↦ λ h. (elim (right_shape bytes) as (λ b. right_shape bytes ≡ b → (x : Outcome) × Means bytes x) [
-        | false ↦ λ s. (fault certificate_shape, (h, s))
-        | true ↦ λ s. (elim (within (fields_in (payload_of bytes))) as (λ b. within (fields_in (payload_of bytes)) ≡ b → (x : Outcome) × Means bytes x) [
-          | true ↦ λ w. (certificate (fields_in (payload_of bytes)), means_fields bytes typed h s w)
-          | false ↦ λ w. (fault field_limits, means_outside bytes typed h s w)
-        ]) refl
-      ]) refl
-    ]) refl
-
--- what is found at the first record
-module _ (bytes : List ℕ) (kind : ℕ) (payload rest : List ℕ) (first : First bytes kind payload rest) where
-  pub shape_is : (eqb kind 16 && (right_length payload && eqb (length rest) 0)) ≡ right_shape bytes
-  shape_is = λ i. eqb (first.kind_is i) 16 && (right_length (first.payload_is i) && eqb (length (first.rest_is i)) 0)
-
-  module _ (typed : Bytes bytes) (shaped : (eqb kind 16 && (right_length payload && eqb (length rest) 0)) ≡ true) (f : Fields) (read : f ≡ fields_in payload) where
-    same : f ≡ fields_in (payload_of bytes)
-    same = read ∙ ap fields_in first.payload_is
-
-    pub found : within f ≡ true → Means bytes (certificate f)
-    found h = (h, bytes_are bytes typed first.whole (sym shape_is ∙ shaped) ∙ ap certificate_bytes (sym same))
-
-    pub outside : within f ≡ false → Outside bytes
-    outside h = means_outside bytes typed first.whole (sym shape_is ∙ shaped) (ap within (sym same) ∙ h)
+    elim (cases_Bool (cut_short bytes)) [
+      | inl h ↦ (fault whole_record, h)
+      | inr h ↦ elim (cases_Bool (right_shape bytes)) [
+        | inr s ↦ (fault certificate_shape, (h, s))
+        | inl s ↦ elim (cases_Bool (within f)) [
+          | inl w ↦ (certificate f, means_fields bytes typed h s w)
+          | inr w ↦ (fault field_limits, means_outside bytes typed h s w)
+        ]
+      ]
+    ]

@@ -1,7 +1,7 @@
 -- A route and its bytes.
-use Rattle.std.proofs.Common.{◌≡◌, ℕ, zero, suc, ◌+◌, ◌*◌, ◌<◌, ◌≤◌, List, [], ◌∷◌, ◌++◌, length, get_or, drop, sym, refl, ap, ◌∙◌, add_assoc, arith}
+use Rattle.std.proofs.Common.{◌≡◌, ℕ, zero, suc, ◌+◌, ◌*◌, ◌/◌, ◌<◌, ◌≤◌, List, [], ◌∷◌, ◌++◌, length, take, drop, refl, ap, ◌∙◌, arith}
 use Rattle.std.specs.List.{AllByRecursion as All}
-use Rattle.std.proofs.lemmas.List.{length-drop, drop-drop, get_or-drop}
+use Rattle.std.proofs.lemmas.List.{length-drop, length-take-le, drop-drop}
 use Rattle.records.specs.Bytes.{le16, u16_at}
 use Rattle.records.proofs.Numbers.{of_le16}
 use Rattle.records.proofs.Cutting.{Bytes, bytes_drop}
@@ -32,17 +32,24 @@ links_forth (suc n) b typed h =
     two_at b 0 typed (omega arith)
     ∙ ap (λ l. le16 (u16_at b 0) ++ l) (links_forth n (drop 2 b) (bytes_drop 2 b typed) (omega (arith, length-drop 2 b)) ∙ ap (λ l. route_bytes (links_in n (drop 2 b)) ++ l) (drop-drop (2 * n) 2 b ∙ ap (λ m. drop m b) (omega arith)))
 
--- one link more
-pub links_more : (n : ℕ) (b : List ℕ) → links_in (n + 1) b ≡ links_in n b ++ u16_at b (2 * n) ∷ []
-links_more zero b = refl
-links_more (suc n) b =
-    (let e : suc n + 1 ≡ suc (n + 1) = omega arith in ap (λ m. links_in m b) e) ∙ ap (λ l. u16_at b 0 ∷ l) (links_more n (drop 2 b) ∙ ap (λ x. links_in n (drop 2 b) ++ x ∷ []) (
-    (λ i. get_or-drop 2 b (2 * n) 0 i + get_or-drop 2 b (2 * n + 1) 0 i * 256) ∙ (let e : 2 + 2 * n ≡ 2 * suc n = omega arith in let f : 2 + (2 * n + 1) ≡ 2 * suc n + 1 = omega arith in λ i. get_or b (e i) 0 + get_or b (f i) 0 * 256)
-    ))
+-- two bytes and what follows them write one link more
+pub link_more : (pair more b : List ℕ) → b ≡ pair ++ more → length pair ≡ 2 → links_in (length b / 2) b ≡ u16_at pair 0 ∷ links_in (length more / 2) more
+link_more [] more b e size = absurd (omega arith)
+link_more (low ∷ []) more b e size = absurd (omega arith)
+link_more (low ∷ high ∷ []) more b e size =
+    let n : suc (suc (length more)) / 2 ≡ suc (length more / 2) = omega arith in
+    ap (λ l. links_in (length l / 2) l) e ∙ ap (λ k. links_in k (low ∷ high ∷ more)) n
+link_more (low ∷ high ∷ third ∷ pair) more b e size = absurd (omega arith)
 
--- the next link of a route that is read from a place on
-pub read_more : (p : List ℕ) (place i : ℕ) (xs : List ℕ) (x : ℕ) → xs ≡ links_in i (drop place p) → x ≡ u16_at p (place + 2 * i) → xs ++ x ∷ [] ≡ links_in (i + 1) (drop place p)
-read_more p place i xs x e f =
-    let low : get_or (drop place p) (2 * i) 0 ≡ get_or p (place + 2 * i) 0 = get_or-drop place p (2 * i) 0 in
-    let high : get_or (drop place p) (2 * i + 1) 0 ≡ get_or p (place + 2 * i + 1) 0 = get_or-drop place p (2 * i + 1) 0 ∙ ap (λ n. get_or p n 0) (sym (add_assoc place (2 * i) 1)) in
-    (λ j. e j ++ f j ∷ []) ∙ sym (links_more i (drop place p) ∙ (λ j. links_in i (drop place p) ++ (low j + high j * 256) ∷ []))
+-- the first links stand in the first bytes
+links_taken : (n : ℕ) (b : List ℕ) → 2 * n ≤ length b → links_in n (take (2 * n) b) ≡ links_in n b
+links_taken zero b room = refl
+links_taken (suc n) [] room = absurd (omega arith)
+links_taken (suc n) (low ∷ []) room = absurd (omega arith)
+links_taken (suc n) (low ∷ high ∷ more) room = let e : 2 * suc n ≡ suc (suc (2 * n)) = omega arith in ap (λ k. links_in (suc n) (take k (low ∷ high ∷ more))) e ∙ ap (λ l. (low + high * 256) ∷ l) (links_taken n more (omega arith))
+
+pub links_front : (n : ℕ) (b : List ℕ) → 2 * n ≤ length b → links_in (length (take (2 * n) b) / 2) (take (2 * n) b) ≡ links_in n b
+links_front n b room = let e : length (take (2 * n) b) / 2 ≡ n = omega (arith, length-take-le (2 * n) b room) in ap (λ k. links_in k (take (2 * n) b)) e ∙ links_taken n b room
+
+pub links_whole : (n : ℕ) (b : List ℕ) → length b ≡ 2 * n → links_in (length b / 2) b ≡ links_in n b
+links_whole n b size = let e : length b / 2 ≡ n = omega arith in ap (λ k. links_in k b) e

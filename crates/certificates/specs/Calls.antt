@@ -1,11 +1,12 @@
 -- What making, writing and reading a certificate give.
 use Rattle.std.specs.Prelude.{◌≡◌, ℕ, ◌<◌, true, false, List, length, take, drop, Ok, Err, Result}
 use Rattle.records.specs.Bytes.{cut_short}
-use Rattle.certificates.specs.Format.{Fields, certificate_bytes, right_shape}
+use Rattle.certificates.specs.Format.{Fields, certificate_bytes, fields_in, right_length, right_shape}
 use Rattle.certificates.specs.Limits.{within}
 use Rattle.certificates.specs.Meaning.{whole_record, certificate_shape, field_limits, certificate, fault, Means}
 use Rattle.certificates.specs.Certificates.{fields_of}
 use Rattle.certificates.specs.declared.certificate.Certificate.{Certificate}
+use Rattle.certificates.specs.declared.fields.CertificateFields.{CertificateFields}
 use Rattle.certificates.specs.declared.faults.CertificateFault.{CertificateFault}
 use Rattle.certificates.specs.declared.faults.CertificateFault.TheVariants as its
 use Rattle.certificates.specs.declared.faults.CertificateRefusal.{CertificateRefusal}
@@ -31,6 +32,14 @@ Wrote f before (Err OutsideLimits) after = ⊥
 abbrev pub Only : Fields → Result ℕ CertificateRefusal → List ℕ → Type 0
 Only f (Ok count) after = (g : Fields) → within g ≡ true → take count after ≡ certificate_bytes g → g ≡ f
 Only f (Err e) after = Unit {0}
+
+-- What reading a payload gives: the fields that it writes, or that its length is wrong; where memory is wanting, the length is right.
+abbrev pub ReadsFields : List ℕ → Result CertificateFields CertificateFault → Type 0
+ReadsFields payload (Ok f) = (right_length payload ≡ true) × (fields_of f ≡ fields_in payload)
+ReadsFields payload (Err (its.CutShort place)) = ⊥
+ReadsFields payload (Err (its.WrongShape place)) = (right_length payload ≡ false) × (place ≡ 0)
+ReadsFields payload (Err its.OutsideLimits) = ⊥
+ReadsFields payload (Err its.Memory) = right_length payload ≡ true
 
 -- What reading gives: the certificate that the bytes mean, or the fault that they mean, at the record's place; where memory is wanting, the record is whole and of the right shape.
 abbrev pub Reads : List ℕ → Result Certificate CertificateFault → Type 0

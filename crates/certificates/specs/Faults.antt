@@ -1,8 +1,8 @@
 -- What is refused of a certificate, in the list of all refusals.
-use Rattle.std.specs.Prelude.{ℕ, Some, None, Option}
+use Rattle.std.specs.Prelude.{ℕ, List, Some, None, Option, codes}
 use Rattle.refusals.specs.declared.Refusal.{Refusal}
 use Rattle.refusals.specs.declared.Refusal.TheVariants as listed
-use Rattle.refusals.specs.Numbers.{number}
+use Rattle.refusals.specs.Numbers.{rule}
 use Rattle.certificates.specs.declared.faults.CertificateFault.{CertificateFault}
 use Rattle.certificates.specs.declared.faults.CertificateFault.TheVariants as fault
 use Rattle.certificates.specs.declared.faults.CertificateRefusal.{CertificateRefusal}
@@ -15,14 +15,14 @@ fault_refusal (fault.WrongShape place) = Some (listed.WrongShape place)
 fault_refusal fault.OutsideLimits = Some listed.FieldOutsideLimits
 fault_refusal fault.Memory = None
 
--- The number of a refusal, where there is one.
-abbrev pub number_in : Option Refusal → Option ℕ
-number_in (Some refusal) = Some (number refusal)
-number_in None = None
+-- The rule of a refusal in words, or that memory is wanting.
+abbrev pub words_of : Option Refusal → List ℕ
+words_of (Some refusal) = rule refusal
+words_of None = codes "memory is wanting"
 
--- The number of each fault of bytes.
-abbrev pub fault_number : CertificateFault → Option ℕ
-fault_number fault = number_in (fault_refusal fault)
+-- Each fault of bytes in words.
+abbrev pub fault_words : CertificateFault → List ℕ
+fault_words fault = words_of (fault_refusal fault)
 
 -- Which refusal of the list each refusal of a certificate is.
 abbrev pub certificate_refusal : CertificateRefusal → Refusal

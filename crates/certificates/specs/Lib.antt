@@ -5,6 +5,5 @@ pub mod Scanning
 pub mod Meaning
 pub mod Theorems
 pub mod Faults
-pub mod Placing
 pub mod Certificates
 pub mod Calls

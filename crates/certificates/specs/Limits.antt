@@ -1,6 +1,6 @@
 -- The limits of a certificate's fields.
-use Rattle.std.specs.Prelude.{ℕ, ◌+◌, ◌*◌, ◌<◌, Bool, true, false, not, ◌&&◌, ◌||◌, List, [], ◌∷◌, ◌++◌, length, ◌==◌, nat_le, nat_lt}
-use Rattle.std.specs.List.{AllByRecursion}
+use Rattle.std.specs.Prelude.{ℕ, ◌+◌, ◌*◌, ◌<◌, Bool, true, not, ◌&&◌, List, [], ◌∷◌, ◌++◌, length, ◌==◌, nat_le, nat_lt}
+use Rattle.std.specs.List.{AllByRecursion, list_all, list_any}
 use Rattle.certificates.specs.Format.{Fields}
 
 -- A circuit's number: 1 to 32.
@@ -21,13 +21,11 @@ count_sound count = nat_le 1 count && nat_le count 255
 
 -- Each link of a route is below 2,048.
 abbrev pub links_sound : List ℕ → Bool
-links_sound [] = true
-links_sound (k ∷ ks) = nat_lt k 2048 && links_sound ks
+links_sound route = list_all (λ k. nat_lt k 2048) route
 
 -- Whether a link is one of some links.
 abbrev pub among : ℕ → List ℕ → Bool
-among k [] = false
-among k (j ∷ js) = j == k || among k js
+among k links = list_any (λ j. j == k) links
 
 -- No link stands twice among some links.
 abbrev pub none_twice : List ℕ → Bool

@@ -1,7 +1,7 @@
 //! The fields of a certificate, before they are checked.
 
 /// The fields of a certificate: the circuit, its two sites, its metres and pole metres, and the links of its two routes.
-#[derive(Drop)]
+#[derive(PartialEq, Eq, Debug, Drop)]
 pub struct CertificateFields {
     pub circuit: u16,
     pub root: u16,

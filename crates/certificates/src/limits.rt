@@ -42,12 +42,7 @@ fn are_metres(metres: u32, poles: u32) -> bool
 fn are_links(route: &[u16]) -> bool
     ensures { result ≡ links_sound route.now }
 {
-    for link in route {
-        if *link >= LINKS {
-            return false;
-        }
-    }
-    true
+    route.iter().all(|link| *link < LINKS)
 }
 
 // Whether a route by itself is within the limits.
@@ -57,41 +52,22 @@ fn is_route(route: &[u16]) -> bool
     1 <= route.len() && route.len() <= MOST_LINKS && are_links(route)
 }
 
-// Whether a link is one of some links.
-fn is_among(link: u16, links: &[u16]) -> bool
-    ensures { result ≡ among link links.now }
-{
-    for other in links {
-        if *other == link {
-            return true;
-        }
-    }
-    false
-}
-
-// Whether a link is among one or the other.
-fn is_in_either(link: u16, some: &[u16], others: &[u16]) -> bool
-    ensures { result ≡ (among link some.now || among link others.now) }
-{
-    is_among(link, some) || is_among(link, others)
-}
-
 // Whether no link of the front stands again after its place, in the front or in the back.
 fn are_once(front: &[u16], back: &[u16]) -> bool
     ensures { result ≡ fronts_once front.now back.now }
 {
-    let mut at = 0;
-    while at < front.len() {
-        let link = front[at];
-        at += 1;
-        if is_in_either(link, &front[at..], back) {
+    let mut rest = front;
+    while let Some((link, behind)) = rest.split_first() {
+        if behind.contains(link) || back.contains(link) {
             return false;
         }
+        rest = behind;
     }
     true
 }
 
 // Whether no link stands twice in the two routes together.
+#[tactic(auto, using(crate::proofs::Scans::both))]
 fn are_apart(one: &[u16], two: &[u16]) -> bool
     ensures { result ≡ none_twice (one.now ++ two.now) }
 {

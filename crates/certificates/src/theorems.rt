@@ -2,22 +2,19 @@
 ghost use Rattle.certificates.specs.Theorems.{SingleValued, Total, ToldApart};
 
 /// The same bytes never mean two things.
-pub fn single_valued_stands() -> u8
+#[tactic(auto, using(crate::proofs::Outcomes::single_valued))]
+pub fn single_valued_stands()
     ensures { SingleValued }
-{
-    0
-}
+{}
 
 /// All bytes mean something.
-pub fn total_stands() -> u8
+#[tactic(auto, using(crate::proofs::Outcomes::total))]
+pub fn total_stands()
     ensures { Total }
-{
-    0
-}
+{}
 
 /// Different fields have different bytes.
-pub fn told_apart_stands() -> u8
+#[tactic(auto, using(crate::proofs::Outcomes::told_apart))]
+pub fn told_apart_stands()
     ensures { ToldApart }
-{
-    0
-}
+{}

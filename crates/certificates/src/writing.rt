@@ -1,58 +1,37 @@
 //! Writing a certificate into a lent buffer.
-ghost use Rattle.std.specs.Prelude.{◌≡◌, ◌+◌, ◌*◌, ◌≤◌, length};
+ghost use Rattle.std.specs.Prelude.{◌≡◌, ◌+◌, ◌*◌, ◌≤◌, ◌++◌, length, take, drop};
+ghost use Rattle.std.specs.List.{flat_map};
 ghost use Rattle.records.specs.Bytes.{le16};
-ghost use Rattle.certificates.specs.Format.{route_bytes};
-ghost use Rattle.certificates.specs.Placing.{placed, front_bytes};
 ghost use Rattle.certificates.specs.Calls.{held, Wrote, Only};
 
 use crate::certificate::Certificate;
 use crate::faults::CertificateRefusal;
-use crate::layout::{FRONT, KIND, NUMBERS};
+use crate::layout::{HEAD, KIND, NUMBERS};
 
-// The bytes of a certificate before its routes.
-fn front_of(certificate: &Certificate) -> [u8; 22]
-    ensures { result ≡ front_bytes (held certificate.now) }
-{
-    let one = certificate.one().len();
-    let two = certificate.two().len();
-    let [a, b] = ((NUMBERS + 2 * (one + two)) as u16).to_le_bytes();
-    let [c, d] = KIND.to_le_bytes();
-    let [e, f] = certificate.circuit().to_le_bytes();
-    let [g, h] = certificate.root().to_le_bytes();
-    let [i, j] = certificate.target().to_le_bytes();
-    let [k, l, m, n] = certificate.metres().to_le_bytes();
-    let [o, p, q, r] = certificate.poles().to_le_bytes();
-    let [s, t] = (one as u16).to_le_bytes();
-    let [u, v] = (two as u16).to_le_bytes();
-    [
-        a, b, c, d, e, f, g, h, i, j, k, l, m, n, o, p, q, r, s, t, u, v,
-    ]
-}
-
-// Puts some bytes into a buffer at a place, and leaves all others.
-fn put(buffer: &mut [u8], place: usize, bytes: &[u8])
+// Puts some bytes into a buffer at a place, leaves all others, and answers the place behind them.
+fn put(buffer: &mut [u8], place: usize, bytes: &[u8]) -> usize
     requires { place + length bytes.now ≤ length buffer.old }
-    ensures { buffer.new ≡ placed buffer.old place bytes.now }
+    ensures behind { result ≡ place + length bytes.now }
+    ensures written { take result buffer.new ≡ take place buffer.old ++ bytes.now }
+    ensures left { drop result buffer.new ≡ drop result buffer.old }
 {
-    buffer[place..place + bytes.len()].copy_from_slice(bytes);
+    let behind = place + bytes.len();
+    buffer[place..behind].copy_from_slice(bytes);
+    behind
 }
 
-// The two bytes of a link, the low byte first.
-fn link_bytes(link: u16) -> [u8; 2]
-    ensures { result ≡ le16 link }
+// Puts numbers into a buffer at a place, two bytes each and the low byte first, leaves all other bytes, and answers the place behind them.
+fn put_numbers(buffer: &mut [u8], place: usize, numbers: &[u16]) -> usize
+    requires { place + 2 * length numbers.now ≤ length buffer.old }
+    ensures behind { result ≡ place + 2 * length numbers.now }
+    ensures written { take result buffer.new ≡ take place buffer.old ++ flat_map le16 numbers.now }
+    ensures left { drop result buffer.new ≡ drop result buffer.old }
 {
-    link.to_le_bytes()
-}
-
-// Puts a route's links into a buffer at a place, two bytes each and the low byte first, and leaves all other bytes.
-fn write_route(buffer: &mut [u8], place: usize, route: &[u16])
-    requires { place + 2 * length route.now ≤ length buffer.old }
-    ensures { buffer.new ≡ placed buffer.old place (route_bytes route.now) }
-{
-    for at in 0..route.len() {
-        let bytes = link_bytes(route[at]);
-        put(buffer, place + 2 * at, &bytes);
+    let mut behind = place;
+    for number in numbers {
+        behind = put(buffer, behind, &number.to_le_bytes());
     }
+    behind
 }
 
 impl Certificate {
@@ -61,17 +40,25 @@ impl Certificate {
         ensures wrote { Wrote (held self.now) buffer.old result buffer.new }
         ensures only { Only (held self.now) result buffer.new }
     {
-        let front = front_of(self);
         let one = self.one();
         let two = self.two();
-        let second = FRONT + 2 * one.len();
-        let size = second + 2 * two.len();
-        if buffer.len() < size {
+        let length = NUMBERS + 2 * (one.len() + two.len());
+        if buffer.len() < HEAD + length {
             return Err(CertificateRefusal::BufferTooShort);
         }
-        put(buffer, 0, &front);
-        write_route(buffer, FRONT, one);
-        write_route(buffer, second, two);
-        Ok(size)
+        let front = [
+            length as u16,
+            KIND,
+            self.circuit(),
+            self.root(),
+            self.target(),
+        ];
+        let counts = [one.len() as u16, two.len() as u16];
+        let metres_at = put_numbers(buffer, 0, &front);
+        let poles_at = put(buffer, metres_at, &self.metres().to_le_bytes());
+        let counts_at = put(buffer, poles_at, &self.poles().to_le_bytes());
+        let first = put_numbers(buffer, counts_at, &counts);
+        let second = put_numbers(buffer, first, one);
+        Ok(put_numbers(buffer, second, two))
     }
 }

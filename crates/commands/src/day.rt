@@ -5,8 +5,10 @@ use crate::told::print_links;
 use anyhow::anyhow;
 use layers::closed::Closing;
 use layers::surcharged::Surcharge;
+use networks::model::NetworkRefusal;
 use networks::network::Network;
 use networks::owned::OwnedNetwork;
+use refusals::Refusal;
 use samples::Sample;
 use sheets::reading::read;
 
@@ -30,57 +32,50 @@ fn work(rt: &HostRuntime, network: OwnedNetwork) -> anyhow::Result<()> {
     println!(rt; "as the sheet has it")?;
     print_links(rt, &network)?;
     let mut closing = Closing::over(network);
-    close(rt, &mut closing, 0)?;
+    print_answer(rt, "close", 0, "closed", closing.close(0))?;
     let mut pile = Surcharge::over(closing);
     let last = pile.links().saturating_sub(1);
-    surcharge(rt, &mut pile, last, 300)?;
+    let amount = 300;
+    let done = format!(in rt.alloc(); "{amount} metres")?;
+    let answer = pile.surcharge(last, amount);
+    print_answer(rt, "surcharge", last, done.as_str(), answer)?;
     println!(rt; "with link 0 closed and 300 metres on the last link")?;
     print_links(rt, &pile)?;
-    take_all(rt, &mut pile)?;
+    call_on_every_link(rt, &mut pile, "take", "taken", |n, link| n.take(link))?;
     println!(rt; "after the takes")?;
     print_links(rt, &pile)?;
-    give_all(rt, &mut pile)?;
+    call_on_every_link(rt, &mut pile, "give", "given back", |n, link| n.give(link))?;
     println!(rt; "after the gives")?;
     print_links(rt, &pile)
 }
 
-fn close<N: Network>(rt: &HostRuntime, layer: &mut Closing<N>, link: u16) -> anyhow::Result<()> {
-    match layer.close(link) {
-        Ok(()) => println!(rt; "close {link}: closed")?,
-        Err(refusal) => print_refusal(rt, "close", link, refusal.refusal())?,
-    }
-    Ok(())
-}
-
-fn surcharge<N: Network>(
+// Prints what came of a call on a link: that it is done, or why it is refused.
+fn print_answer<R: Into<Refusal>>(
     rt: &HostRuntime,
-    layer: &mut Surcharge<N>,
+    call: &str,
     link: u16,
-    amount: u32,
+    done: &str,
+    answer: Result<(), R>,
 ) -> anyhow::Result<()> {
-    match layer.surcharge(link, amount) {
-        Ok(()) => println!(rt; "surcharge {link}: {amount} metres")?,
-        Err(refusal) => print_refusal(rt, "surcharge", link, refusal.refusal())?,
+    match answer {
+        Ok(()) => println!(rt; "{call} {link}: {done}")?,
+        Err(refusal) => print_refusal(rt, call, link, refusal.into())?,
     }
     Ok(())
 }
 
-fn take_all<N: Network>(rt: &HostRuntime, pile: &mut N) -> anyhow::Result<()> {
-    for link in 0..pile.links() {
-        match pile.take(link) {
-            Ok(()) => println!(rt; "take {link}: taken")?,
-            Err(refusal) => print_refusal(rt, "take", link, refusal.refusal())?,
-        }
-    }
-    Ok(())
-}
-
-fn give_all<N: Network>(rt: &HostRuntime, pile: &mut N) -> anyhow::Result<()> {
-    for link in 0..pile.links() {
-        match pile.give(link) {
-            Ok(()) => println!(rt; "give {link}: given back")?,
-            Err(refusal) => print_refusal(rt, "give", link, refusal.refusal())?,
-        }
+// Calls on every link of a network, and prints what came of each call.
+fn call_on_every_link<N: Network, F: FnMut(&mut N, u16) -> Result<(), NetworkRefusal>>(
+    rt: &HostRuntime,
+    network: &mut N,
+    call: &str,
+    done: &str,
+    mut step: F,
+) -> anyhow::Result<()>
+    requires { F.IsAlwaysCallable step }
+{
+    for link in 0..network.links() {
+        print_answer(rt, call, link, done, step(network, link))?;
     }
     Ok(())
 }

@@ -4,6 +4,7 @@ use refusals::{Carried, Refusal};
 use sheets::faults::SheetFault;
 
 /// Prints a refusal of a call: its number and its rule.
+// A line of several values; the refusal prints its own rule.
 pub fn print_refusal(
     rt: &HostRuntime,
     call: &str,
@@ -11,22 +12,21 @@ pub fn print_refusal(
     refusal: Refusal,
 ) -> anyhow::Result<()> {
     let number = refusal.number();
-    let rule = refusal.rule();
-    println!(rt; "{call} {link}: refused {number}: {rule}")?;
+    println!(rt; "{call} {link}: refused {number}: {refusal}")?;
     Ok(())
 }
 
 /// Prints a fault of a sheet: its number and place, and below it the rule that the record broke.
+// Lines of several values; the refusal prints its own rule.
 pub fn print_fault(rt: &HostRuntime, fault: SheetFault) -> anyhow::Result<()> {
-    let Some(refusal) = fault.refusal() else {
+    let Ok(refusal) = Refusal::try_from(fault) else {
         return Err(anyhow!("there is no memory to read the sheet"));
     };
     let number = refusal.number();
-    let rule = refusal.rule();
     match refusal.value() {
         Carried::Place(place) => println!(rt; "fault {number} at {place}")?,
         _ => println!(rt; "fault {number}")?,
     }
-    println!(rt; "{rule}")?;
+    println!(rt; "{refusal}")?;
     Ok(())
 }

@@ -32,20 +32,18 @@ pub fn print_sheet(rt: &HostRuntime, bytes: &[u8]) -> anyhow::Result<()> {
     }
 }
 
-// Prints record after record, each with its place; a sheet has fewer records than bytes.
+// Prints record after record, each with its place.
 fn print_records(rt: &HostRuntime, bytes: &[u8]) -> anyhow::Result<()> {
     let mut reader = RecordReader::new(bytes);
     let mut links: u64 = 0;
-    for _ in 0..bytes.len() {
-        let Ok(Some(placed)) = reader.next() else {
-            break;
-        };
+    while let Ok(Some(placed)) = reader.next() {
         links = print_record(rt, placed, links)?;
     }
     Ok(())
 }
 
 // Prints a record after so many links, and answers how many links there are then.
+// A line for each kind of record, which tells the number of a link too: that is no part of the record.
 fn print_record(rt: &HostRuntime, placed: Placed, links: u64) -> anyhow::Result<u64> {
     let place = placed.place;
     match placed.record {
@@ -76,11 +74,14 @@ fn print_link_record(
     number: u64,
     link: Link,
 ) -> anyhow::Result<()> {
-    let start = link.start;
-    let end = link.end;
-    let metres = link.metres;
-    let poles = link.poles;
-    let channels = link.channels;
+    let Link {
+        start,
+        end,
+        metres,
+        poles,
+        channels,
+        ..
+    } = link;
     println!(rt;
         "{place}: link {number}, {start} to {end}, {metres} metres, {poles} on poles, channels {channels}"
     )?;

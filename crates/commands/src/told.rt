@@ -1,7 +1,9 @@
 //! What a network tells of its links.
+use crate::refused::print_refusal;
 use anyhow::anyhow;
 use networks::model::NetworkRefusal;
 use networks::network::Network;
+use std::fmt;
 
 /// The numbers that a network tells of one link.
 #[derive(Clone, Copy)]
@@ -18,6 +20,30 @@ pub struct Totals {
     metres: u64,
     poles: u64,
     channels: u64,
+}
+
+impl fmt::Display for Told {
+    fn fmt<W: fmt::Write>(&self, f: &mut fmt::Formatter<W>) -> fmt::Result {
+        let (start, end) = self.ends;
+        let (metres, poles) = self.lengths;
+        let (channels, taken) = self.channels;
+        let light = if self.lit { "lit" } else { "dark" };
+        write!(
+            f,
+            "{start} to {end}, {metres} metres, {poles} on poles, {taken} of {channels} taken, {light}"
+        )
+    }
+}
+
+impl fmt::Display for Totals {
+    fn fmt<W: fmt::Write>(&self, f: &mut fmt::Formatter<W>) -> fmt::Result {
+        let Totals {
+            metres,
+            poles,
+            channels,
+        } = *self;
+        write!(f, "metres {metres} poles {poles} channels {channels}")
+    }
 }
 
 /// Asks a network everything of one link.
@@ -48,39 +74,26 @@ pub fn add_up<N: Network>(network: &N) -> Result<Totals, NetworkRefusal> {
     Ok(sums)
 }
 
-/// Prints one link on a line.
-pub fn print_link(rt: &HostRuntime, link: u16, told: Told) -> anyhow::Result<()> {
-    let (start, end) = told.ends;
-    let (metres, poles) = told.lengths;
-    let (channels, taken) = told.channels;
-    let light = if told.lit { "lit" } else { "dark" };
-    println!(rt;
-        "  link {link}: {start} to {end}, {metres} metres, {poles} on poles, {taken} of {channels} taken, {light}"
-    )?;
-    Ok(())
-}
-
 /// Prints every link of a network.
+// Its own loop beside that of the sums: one prints, the other adds up, and either stops at other errors.
 pub fn print_links<N: Network>(rt: &HostRuntime, network: &N) -> anyhow::Result<()> {
     for link in 0..network.links() {
         match ask(network, link) {
-            Ok(told) => print_link(rt, link, told)?,
-            Err(refusal) => crate::refused::print_refusal(rt, "link", link, refusal.refusal())?,
+            Ok(told) => println!(rt; "  link {link}: {told}")?,
+            Err(refusal) => print_refusal(rt, "link", link, refusal.into())?,
         }
     }
     Ok(())
 }
 
 /// Prints a network's totals.
+// A line of several values; the sums print themselves.
 pub fn print_totals<N: Network>(rt: &HostRuntime, network: &N) -> anyhow::Result<()> {
     let sites = network.sites();
     let links = network.links();
     let Ok(sums) = add_up(network) else {
         return Err(anyhow!("a network refused one of its own links"));
     };
-    let metres = sums.metres;
-    let poles = sums.poles;
-    let channels = sums.channels;
-    println!(rt; "sites {sites} links {links} metres {metres} poles {poles} channels {channels}")?;
+    println!(rt; "sites {sites} links {links} {sums}")?;
     Ok(())
 }

@@ -8,7 +8,8 @@ use crate::link::Lengths;
 use crate::sizes::{size, within, within_together};
 
 /// A cost in metres.
-#[derive(Clone, Copy)]
+// Written out beside `FirstThen`: one text for costs of one number and of two would need a trait of its own for their sums.
+#[derive(Clone, Copy, PartialEq, Eq, PartialOrd, Ord, Debug)]
 pub struct Length {
     metres: i64,
 }
@@ -18,8 +19,7 @@ impl Length {
     pub fn metres(self) -> i64
         ensures { result ≡ self.metres }
     {
-        let Length { metres } = self;
-        metres
+        self.metres
     }
 }
 
@@ -55,12 +55,12 @@ impl Cost for Length {
     }
 
     fn less(self, other: Length) -> bool {
-        self.metres < other.metres
+        self < other
     }
 
     fn of_link(lengths: Lengths) -> Length {
         Length {
-            metres: lengths.metres as i64,
+            metres: i64::from(lengths.metres),
         }
     }
 }

@@ -27,7 +27,7 @@ pub trait Parts {
 }
 
 /// A cost of two numbers, of which the first decides, and the second where the first is equal.
-#[derive_where(Clone, Copy)]
+#[derive_where(Clone, Copy, PartialEq, Eq, PartialOrd, Ord, Debug)]
 pub struct FirstThen<P> {
     first: i64,
     second: i64,
@@ -39,25 +39,21 @@ impl<P> FirstThen<P> {
     pub fn first(self) -> i64
         ensures { result ≡ self.first }
     {
-        let FirstThen { first, .. } = self;
-        first
+        self.first // decides
     }
 
     /// The number that is compared where the first is equal.
     pub fn second(self) -> i64
         ensures { result ≡ self.second }
     {
-        let FirstThen { second, .. } = self;
-        second
+        self.second // decides where the first is equal
     }
 
     /// The larger of the two sizes.
     fn size(self) -> u64
         ensures { result ≡ max (unsigned_abs self.first) (unsigned_abs self.second) }
     {
-        let first = size(self.first);
-        let second = size(self.second);
-        if first < second { second } else { first }
+        size(self.first).max(size(self.second))
     }
 }
 
@@ -101,13 +97,13 @@ impl<P: Parts> Cost for FirstThen<P> {
     }
 
     fn less(self, other: FirstThen<P>) -> bool {
-        self.first < other.first || self.first == other.first && self.second < other.second
+        self < other
     }
 
     fn of_link(lengths: Lengths) -> FirstThen<P> {
         FirstThen {
-            first: P::first(lengths) as i64,
-            second: P::second(lengths) as i64,
+            first: i64::from(P::first(lengths)),
+            second: i64::from(P::second(lengths)),
             parts: PhantomData,
         }
     }

@@ -2,68 +2,60 @@
 ghost use Rattle.std.specs.Prelude.{◌≡◌, ℕ, ◌<◌, ◌≤◌, true, length};
 ghost use Rattle.least_pairs.specs.Views.{view, without};
 ghost use Rattle.least_pairs.specs.Plans.{first_run, first_cut, labelled};
-ghost use Rattle.pairs.specs.Tables.{Tells};
+ghost use Rattle.std.specs.Option.{unwrap_or};
+ghost use Rattle.cutting.specs.Cuts.{found_cut};
 ghost use Rattle.pairs.specs.Reading.{first_of, tree_route_to};
+ghost use Rattle.runs.specs.Lent.{SameTables};
 
 use costs::Cost;
 use networks::network::Network;
-use pairs::tree_route;
+use pairs::Tree;
 use queue::Entry;
 use running::first_run_without;
-use runs::NONE;
+use runs::{NONE, RunTables};
 
 /// Whether a target is reached with a link left out. The tables are worked in.
 fn is_reached_without<N: Network, C: Cost + Copy>(
-    network: &N,
+    tree: &Tree<N, C>,
     link: u16,
-    root: u16,
     target: u16,
-    label: &mut [C],
-    entry: &mut [u16],
-    turns: &mut [u16],
-    struck: &mut [u16],
+    tables: &mut RunTables<C>,
     queue: &mut [Entry<C>],
 ) -> bool
-    requires root { (root < (N.Network.meaning network.now).sites) × (target < (N.Network.meaning network.now).sites) }
-    requires room { ((N.Network.meaning network.now).sites ≤ length label.old) × (((N.Network.meaning network.now).sites ≤ length entry.old) × (((N.Network.meaning network.now).sites ≤ length turns.old) × (((N.Network.meaning network.now).sites ≤ length struck.old) × ((N.Network.meaning network.now).sites ≤ length queue.old)))) }
-    ensures { result ≡ labelled ((first_run C.Cost.ops (without link (view C.Cost.ops (N.Network.meaning network.now))) root).labels target) }
+    requires target { target < (N.Network.meaning tree.now.network.now).sites }
+    requires room { ((N.Network.meaning tree.now.network.now).sites ≤ tables.old.sites) × ((N.Network.meaning tree.now.network.now).sites ≤ length queue.old) }
+    ensures reached { result ≡ labelled ((first_run C.Cost.ops (without link (view C.Cost.ops (N.Network.meaning tree.now.network.now))) tree.now.root).labels target) }
+    ensures same { SameTables tables.old tables.new }
 {
-    let _count = first_run_without(network, link, root, label, entry, turns, struck, queue);
-    entry[target as usize] != NONE
+    let _count = first_run_without(tree.network, link, tree.root, tables, queue);
+    // A number for none: the tables are plain u16, since a C program may lend them.
+    tables.links[target as usize] != NONE
 }
 
-/// The first link of the tree route to a reached target without which it is out of reach; 0 where there is none. The tables but the tree are worked in.
+/// The first link of the tree route to a reached target without which it is out of reach, if there is one. The other tables are worked in.
 pub fn cutting_link<N: Network, C: Cost + Copy>(
-    network: &N,
-    tree: &[u16],
-    root: u16,
+    tree: &Tree<N, C>,
     target: u16,
     route: &mut [u16],
-    label: &mut [C],
-    entry: &mut [u16],
-    turns: &mut [u16],
-    struck: &mut [u16],
+    tables: &mut RunTables<C>,
     queue: &mut [Entry<C>],
-) -> u16
-    requires root { (root < (N.Network.meaning network.now).sites) × (target < (N.Network.meaning network.now).sites) }
-    requires room { ((N.Network.meaning network.now).sites ≤ length label.old) × (((N.Network.meaning network.now).sites ≤ length entry.old) × (((N.Network.meaning network.now).sites ≤ length turns.old) × (((N.Network.meaning network.now).sites ≤ length struck.old) × ((N.Network.meaning network.now).sites ≤ length queue.old)))) }
-    requires routes { ((N.Network.meaning network.now).sites ≤ length tree.now) × ((N.Network.meaning network.now).sites ≤ length route.old) }
-    requires tree { Tells (N.Network.meaning network.now).sites tree.now (λ l. l.link) (first_of C.Cost.ops (N.Network.meaning network.now) root).labels }
-    requires target { labelled ((first_of C.Cost.ops (N.Network.meaning network.now) root).labels target) ≡ true }
-    ensures { result ≡ first_cut C.Cost.ops (view C.Cost.ops (N.Network.meaning network.now)) root target (tree_route_to C.Cost.ops (N.Network.meaning network.now) root target) }
+) -> Option<u16>
+    requires target { target < (N.Network.meaning tree.now.network.now).sites }
+    requires route { (N.Network.meaning tree.now.network.now).sites ≤ length route.old }
+    requires room { ((N.Network.meaning tree.now.network.now).sites ≤ tables.old.sites) × ((N.Network.meaning tree.now.network.now).sites ≤ length queue.old) }
+    requires reached { labelled ((first_of C.Cost.ops (N.Network.meaning tree.now.network.now) tree.now.root).labels target) ≡ true }
+    ensures cut { result ≡ found_cut C.Cost.ops (view C.Cost.ops (N.Network.meaning tree.now.network.now)) tree.now.root target (tree_route_to C.Cost.ops (N.Network.meaning tree.now.network.now) tree.now.root target) }
+    ensures link { unwrap_or result 0 ≡ first_cut C.Cost.ops (view C.Cost.ops (N.Network.meaning tree.now.network.now)) tree.now.root target (tree_route_to C.Cost.ops (N.Network.meaning tree.now.network.now) tree.now.root target) }
 {
-    let count = tree_route::<C, N>(network, tree, root, target, route);
-    let mut at: u16 = 0;
+    let count = tree.tree_route(target, route);
+    let mut links = &route[0..count as usize];
     'search: loop {
-        if at == count {
-            break 'search 0;
+        let Some((link, rest)) = links.split_first() else {
+            break 'search None;
+        };
+        if !is_reached_without(tree, *link, target, tables, queue) {
+            break 'search Some(*link);
         }
-        let link = route[at as usize];
-        if !is_reached_without(
-            network, link, root, target, label, entry, turns, struck, queue,
-        ) {
-            break 'search link;
-        }
-        at += 1;
+        links = rest;
     }
 }

@@ -1,47 +1,13 @@
 -- Streets as pairs of links: what is added, and what stands where.
-use Rattle.std.proofs.Common.{◌≡◌, ℕ, zero, suc, ◌+◌, ◌-◌, ◌*◌, ◌/◌, ◌%◌, ◌<◌, ◌≤◌, true, ltb, List, [], ◌∷◌, ◌++◌, length, get_or, Ok, Err, Result, sym, refl, ap, ◌∙◌, ⊎_elim, append_assoc, mod-lt, mul_comm, mul-le-mul, mul-one, mul-add, add-one, arith, length-append, get_or-append-add, lt-ltb, MatchResult}
+use Rattle.std.proofs.Common.{rules, tests, ◌≡◌, ℕ, zero, suc, ◌+◌, ◌-◌, ◌*◌, ◌/◌, ◌%◌, ◌<◌, ◌≤◌, true, List, [], ◌∷◌, ◌++◌, length, get_or, sym, refl, ap, ◌∙◌, ⊎_elim, mod-lt, mul_comm, mul-le-mul, mul-one, mul-add, arith, length-append, get_or-append-add}
 use lib.Arith.{digits_lt}
 use lib.Seq.{get_or_at}
 use Rattle.std.proofs.lemmas.List.{get_or_append_left}
 use Rattle.std.proofs.lemmas.Nat.{div-add-mod', div_below}
-use borrow.Author.Tests.{both_ways}
-use Rattle.std.proofs.lemmas.Bool.{and_from, cases_lt}
+use Rattle.std.proofs.lemmas.Bool.{cases_lt}
 use Rattle.networks.specs.declared.model.Link.{Link}
-use Rattle.networks.specs.declared.building.BuildRefusal.{BuildRefusal}
-use Rattle.networks.specs.declared.building.BuildRefusal.TheVariants.{OutsideLimits, Memory}
-use Rattle.networks.specs.Meaning.{Net, link_sound}
-use Rattle.networks.specs.Owning.{extended, has_room, Added}
-use Rattle.networks.proofs.Soundness.{within}
-use Rattle.grids.specs.Streets.{street, net, two_ways, row_site, Plan}
-
--- a sound link has room where the links are few
-pub room : (n : Net) (l : Link) → length n.links < 2048 → link_sound n.sites l ≡ true → has_room n l ≡ true
-room n l few sound = and_from (ltb (length n.links) 2048) (link_sound n.sites l) (lt-ltb (length n.links) 2048 few) sound
-
--- a link that has room is refused for want of memory alone
-pub only_memory : (n m : Net) (l : Link) (e : BuildRefusal) → Added n l (Err e) m → has_room n l ≡ true → e ≡ Memory
-only_memory n m l OutsideLimits told h = absurd (both_ways (has_room n l) told.0 h)
-only_memory n m l Memory told h = refl
-
--- the second link of a street, after the first
-pub second_added : (n m k : Net) (l l2 : Link) (r : Result (Unit {0}) BuildRefusal) → m ≡ extended n l → Added m l2 r k → has_room m l2 ≡ true → MatchResult r (λ _. k ≡ net n.sites (n.links ++ l ∷ l2 ∷ [])) (λ e. e ≡ Memory)
-second_added n m k l l2 (Ok x) first told h = told.1 ∙ ap (λ z. extended z l2) first ∙ ap (net n.sites) (append_assoc n.links (l ∷ []) (l2 ∷ []))
-second_added n m k l l2 (Err e) first told h = only_memory m k l2 e told h
-
--- a street between two different sites, within its limits, is sound
-pub street_sound : (sites a b metres channels : ℕ) → a < sites → b < sites → (a ≡ b → ⊥) → 1 ≤ metres → metres ≤ 1000000 → 1 ≤ channels → channels ≤ 255 → link_sound sites (street a b metres channels) ≡ true
-street_sound sites a b metres channels ha hb apart m1 m2 c1 c2 =
-    within sites (street a b metres channels) (record {
-      start_low = ha;
-      end_low = hb;
-      apart = apart;
-      metres_low = m1;
-      metres_high = m2;
-      poles_high = omega arith;
-      channels_low = c1;
-      channels_high = c2;
-      taken_high = omega arith;
-    })
+use Rattle.networks.specs.Meaning.{link_sound}
+use Rattle.grids.specs.Streets.{street, two_ways, row_site, Plan}
 
 module _ (from : ℕ → ℕ) (step metres channels : ℕ) where
   -- two links for each street
@@ -50,6 +16,10 @@ module _ (from : ℕ → ℕ) (step metres channels : ℕ) where
   two_ways_length (suc m) =
       let before = two_ways_length m in
       length-append (two_ways from step metres channels m) (street (from m) (from m + step) metres channels ∷ street (from m + step) (from m) metres channels ∷ []) ∙ omega (arith, before)
+
+  -- the same behind other links
+  pub longer : (before : List Link) (m : ℕ) → length (before ++ two_ways from step metres channels m) ≡ length before + 2 * m
+  longer before m = length-append before (two_ways from step metres channels m) ∙ ap (λ k. length before + k) (two_ways_length m)
 
   -- the links of street i stand at 2 i and the next place
   pub two_ways_at : (m i : ℕ) (d : Link) → i < m → (get_or (two_ways from step metres channels m) (2 * i) d ≡ street (from i) (from i + step) metres channels) × (get_or (two_ways from step metres channels m) (2 * i + 1) d ≡ street (from i + step) (from i) metres channels)
@@ -107,11 +77,12 @@ module _ {w h metres channels : ℕ} (plan : Plan w h metres channels) where
       let b : h - 1 ≤ 15 = omega (arith, plan.most_rows) in
       (mul-le-mul plan.most_rows a, mul-le-mul plan.most_columns b)
 
--- one street more behind those before
-pub next_street : (before : List Link) (from : ℕ → ℕ) (step metres channels m sites : ℕ) (n k : Net) → n ≡ net sites (before ++ two_ways from step metres channels m) → k ≡ net n.sites (n.links ++ street (from m) (from m + step) metres channels ∷ street (from m + step) (from m) metres channels ∷ []) → k ≡ net sites (before ++ two_ways from step metres channels (m + 1))
-next_street before from step metres channels m sites n k old new =
-    let pair = street (from m) (from m + step) metres channels ∷ street (from m + step) (from m) metres channels ∷ [] in
-    new
-    ∙ ap (λ z. net z.sites (z.links ++ pair)) old
-    ∙ ap (net sites) (append_assoc before (two_ways from step metres channels m) pair)
-    ∙ ap (λ i. net sites (before ++ two_ways from step metres channels i)) (sym (add-one m))
+  -- a street between two different sites of the grid is sound
+  pub street_fits : (sites a b : ℕ) → sites ≡ w * h → a < w * h → b < w * h → (a ≡ b → ⊥) → link_sound sites (street a b metres channels) ≡ true
+  unfolding link_sound
+  street_fits sites a b all low inside apart =
+      let most_metres = plan.most_metres in
+      let some_metres = plan.some_metres in
+      let most_channels = plan.most_channels in
+      let some_channels = plan.some_channels in
+      search (rules, tests, arith)

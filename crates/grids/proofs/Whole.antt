@@ -1,9 +1,9 @@
 -- The whole grid: the list that is made is the grid, every link of it is a street's, and nothing else is.
-use Rattle.std.proofs.Common.{◌≡◌, ℕ, ◌+◌, ◌-◌, ◌*◌, ◌/◌, ◌%◌, ◌<◌, ◌≤◌, true, ◌&&◌, eqb, leb, ◌⊎◌, ◌++◌, length, get_or, sym, refl, ap, ◌∙◌, subst, inl, inr, ⊎_elim, mod-lt, mul_assoc, mul_comm, mul-one, mul-add, arith, length-append, get_or-append-add, ext_get_or, eq-eqb, ne_eqb, leb-true}
+use Rattle.std.proofs.Common.{rules, tests, ◌≡◌, ℕ, ◌+◌, ◌-◌, ◌*◌, ◌/◌, ◌%◌, ◌<◌, ◌≤◌, true, eqb, ◌⊎◌, ◌++◌, length, get_or, sym, refl, ap, ◌∙◌, subst, inl, inr, ⊎_elim, mod-lt, mul_assoc, mul_comm, mul-one, mul-add, arith, length-append, get_or-append-add, ext_get_or, eq-eqb, ne_eqb}
 use lib.Arith.{digits_lt, digits_div}
 use Rattle.std.proofs.lemmas.List.{get_or_append_left}
 use Rattle.std.proofs.lemmas.Nat.{div-add-mod', div_below}
-use Rattle.std.proofs.lemmas.Bool.{and_parts, cases_lt, cond-true, cond-false}
+use Rattle.std.proofs.lemmas.Bool.{cases_lt, cond-true, cond-false}
 use Rattle.networks.specs.Meaning.{Net, link_at, no_link}
 use Rattle.grids.specs.Streets.{street, net, two_ways, row_site, grid_within, BothWays, Grid, Plan, beside, turned, ReturnLinksStandBeside}
 use Rattle.grids.proofs.Pairs.{two_ways_length, two_ways_at}
@@ -12,26 +12,17 @@ use Rattle.grids.proofs.Pairs.{two_ways_length, two_ways_at}
 pub plans : (w h along across channels : ℕ) → grid_within w h along across channels ≡ true → Plan w h along channels × Plan w h across channels
 unfolding grid_within
 plans w h along across channels e =
-    let last = and_parts (((leb 2 w && leb w 16) && (leb 2 h && leb h 16)) && ((leb 1 along && leb along 1000000) && (leb 1 across && leb across 1000000))) (leb 1 channels && leb channels 255) e in
-    let first = and_parts ((leb 2 w && leb w 16) && (leb 2 h && leb h 16)) ((leb 1 along && leb along 1000000) && (leb 1 across && leb across 1000000)) last.0 in
-    let shape = and_parts (leb 2 w && leb w 16) (leb 2 h && leb h 16) first.0 in
-    let cs = and_parts (leb 2 w) (leb w 16) shape.0 in
-    let rs = and_parts (leb 2 h) (leb h 16) shape.1 in
-    let lengths = and_parts (leb 1 along && leb along 1000000) (leb 1 across && leb across 1000000) first.1 in
-    let al = and_parts (leb 1 along) (leb along 1000000) lengths.0 in
-    let ac = and_parts (leb 1 across) (leb across 1000000) lengths.1 in
-    let ch = and_parts (leb 1 channels) (leb channels 255) last.1 in
     let plan : (metres : ℕ) → 1 ≤ metres → metres ≤ 1000000 → Plan w h metres channels = λ metres low high. record {
-      few_columns = leb-true 2 w cs.0;
-      most_columns = leb-true w 16 cs.1;
-      few_rows = leb-true 2 h rs.0;
-      most_rows = leb-true h 16 rs.1;
+      few_columns = search (rules, tests);
+      most_columns = search (rules, tests);
+      few_rows = search (rules, tests);
+      most_rows = search (rules, tests);
       some_metres = low;
       most_metres = high;
-      some_channels = leb-true 1 channels ch.0;
-      most_channels = leb-true channels 255 ch.1;
+      some_channels = search (rules, tests);
+      most_channels = search (rules, tests);
     } in
-    (plan along (leb-true 1 along al.0) (leb-true along 1000000 al.1), plan across (leb-true 1 across ac.0) (leb-true across 1000000 ac.1))
+    (plan along (search (rules, tests)) (search (rules, tests)), plan across (search (rules, tests)) (search (rules, tests)))
 
 -- a number and its half
 halves : (k m : ℕ) → k / 2 ≡ m → (k ≡ 2 * m) ⊎ (k ≡ 2 * m + 1)

@@ -1,7 +1,7 @@
 //! Street grids: districts planned as columns and rows of sites, each street a link there and a link back.
 #![tactic(auto)]
 
-ghost use Rattle.std.specs.Prelude.{◌≡◌, ℕ, ◌+◌, ◌-◌, ◌*◌, ◌<◌, ◌≤◌, true, [], ◌∷◌, ◌++◌, length, MatchResult};
+ghost use Rattle.std.specs.Prelude.{◌≡◌, ℕ, ◌+◌, ◌-◌, ◌*◌, ◌≤◌, true, [], ◌∷◌, ◌++◌, length, MatchResult};
 ghost use Rattle.networks.specs.declared.building.BuildRefusal.TheVariants.{Memory};
 ghost use Rattle.networks.specs.Meaning.{link_sound};
 ghost use Rattle.networks.specs.Owning.{owned_meaning};
@@ -12,28 +12,27 @@ use networks::model::Link;
 use networks::owned::OwnedNetwork;
 use std::alloc::Global;
 
-// A lit link of so many metres, none of them on poles, with no channel taken.
-fn street_link(start: u16, end: u16, metres: u32, channels: u16) -> Link
-    ensures { result ≡ street start end metres channels }
-{
-    Link {
-        start,
-        end,
-        metres,
-        poles: 0,
-        channels,
-        taken: 0,
-        lit: true,
-    }
+/// What a grid is made of: so many columns and rows, with streets of one length along the rows and another across, and channels alike.
+#[derive(Clone, Copy, PartialEq, Eq, Debug)]
+pub struct GridPlan {
+    pub columns: u16,
+    pub rows: u16,
+    pub along: u32,
+    pub across: u32,
+    pub channels: u16,
 }
 
-// Whether every number of a grid is within its limits.
-fn is_within(columns: u16, rows: u16, along: u32, across: u32, channels: u16) -> bool
-    ensures { result ≡ grid_within columns rows along across channels }
-{
-    let shape = (2 <= columns) & (columns <= 16) & ((2 <= rows) & (rows <= 16));
-    let lengths = (1 <= along) & (along <= 1_000_000) & ((1 <= across) & (across <= 1_000_000));
-    shape & lengths & ((1 <= channels) & (channels <= 255))
+impl GridPlan {
+    /// Whether every number is within its limits.
+    #[tactic(auto, unfolding(crate::specs::Streets::grid_within))]
+    pub fn is_within(&self) -> bool
+        ensures { result ≡ grid_within self.now.columns self.now.rows self.now.along self.now.across self.now.channels }
+    {
+        let shape = (2..=16).contains(&self.columns) && (2..=16).contains(&self.rows);
+        let lengths = (1..=1_000_000).contains(&self.along)
+            && (1..=1_000_000).contains(&self.across);
+        shape && lengths && (1..=255).contains(&self.channels)
+    }
 }
 
 // Adds a street's two links, there and back.
@@ -49,72 +48,57 @@ fn add_street(
     requires room { length (owned_meaning network.old).links + 2 ≤ 2048 }
     ensures { MatchResult result (λ _. owned_meaning network.new ≡ net (owned_meaning network.old).sites ((owned_meaning network.old).links ++ street from to metres channels ∷ street to from metres channels ∷ [])) (λ e. e ≡ Memory) }
 {
-    network.add(street_link(from, to, metres, channels))?;
-    network.add(street_link(to, from, metres, channels))
+    network.add(Link::lit(from, to, metres, 0, channels))?;
+    network.add(Link::lit(to, from, metres, 0, channels))
 }
 
 // Adds the streets along the rows.
-fn add_rows(
-    network: &mut OwnedNetwork,
-    columns: u16,
-    rows: u16,
-    metres: u32,
-    channels: u16,
-) -> Result<(), BuildRefusal>
-    requires plan { Plan columns rows metres channels }
-    requires bare { owned_meaning network.old ≡ net (columns * rows) [] }
-    ensures { MatchResult result (λ _. owned_meaning network.new ≡ net (columns * rows) (two_ways (row_site columns) 1 metres channels (rows * (columns - 1)))) (λ e. e ≡ Memory) }
+fn add_rows(network: &mut OwnedNetwork, plan: GridPlan) -> Result<(), BuildRefusal>
+    requires plan { Plan plan.columns plan.rows plan.along plan.channels }
+    requires bare { owned_meaning network.old ≡ net (plan.columns * plan.rows) [] }
+    ensures { MatchResult result (λ _. owned_meaning network.new ≡ net (plan.columns * plan.rows) (two_ways (row_site plan.columns) 1 plan.along plan.channels (plan.rows * (plan.columns - 1)))) (λ e. e ≡ Memory) }
 {
-    let streets = columns - 1;
-    for m in 0..rows * streets {
+    let streets = plan.columns - 1;
+    for m in 0..plan.rows * streets {
         let site = m + m / streets;
-        add_street(network, site, site + 1, metres, channels)?;
+        add_street(network, site, site + 1, plan.along, plan.channels)?;
     }
     Ok(())
 }
 
 // Adds the streets across the rows.
-fn add_columns(
-    network: &mut OwnedNetwork,
-    columns: u16,
-    rows: u16,
-    metres: u32,
-    channels: u16,
-) -> Result<(), BuildRefusal>
-    requires plan { Plan columns rows metres channels }
-    requires sites { (owned_meaning network.old).sites ≡ columns * rows }
-    requires links { length (owned_meaning network.old).links ≡ 2 * (rows * (columns - 1)) }
-    ensures { MatchResult result (λ _. owned_meaning network.new ≡ net (columns * rows) ((owned_meaning network.old).links ++ two_ways (λ m. m) columns metres channels (columns * (rows - 1)))) (λ e. e ≡ Memory) }
+fn add_columns(network: &mut OwnedNetwork, plan: GridPlan) -> Result<(), BuildRefusal>
+    requires plan { Plan plan.columns plan.rows plan.across plan.channels }
+    requires sites { (owned_meaning network.old).sites ≡ plan.columns * plan.rows }
+    requires links { length (owned_meaning network.old).links ≡ 2 * (plan.rows * (plan.columns - 1)) }
+    ensures { MatchResult result (λ _. owned_meaning network.new ≡ net (plan.columns * plan.rows) ((owned_meaning network.old).links ++ two_ways (λ m. m) plan.columns plan.across plan.channels (plan.columns * (plan.rows - 1)))) (λ e. e ≡ Memory) }
 {
-    for site in 0..columns * (rows - 1) {
-        add_street(network, site, site + columns, metres, channels)?;
+    for site in 0..plan.columns * (plan.rows - 1) {
+        add_street(
+            network,
+            site,
+            site + plan.columns,
+            plan.across,
+            plan.channels,
+        )?;
     }
     Ok(())
 }
 
-/// A grid of so many columns and rows, with streets of one length along the rows and another across, and channels alike.
-pub fn street_grid(
-    heap: Global,
-    columns: u16,
-    rows: u16,
-    along: u32,
-    across: u32,
-    channels: u16,
-) -> Result<OwnedNetwork, BuildRefusal>
-    ensures { Made columns rows along across channels result }
+/// The grid of a plan.
+pub fn street_grid(heap: Global, plan: GridPlan) -> Result<OwnedNetwork, BuildRefusal>
+    ensures { Made plan.columns plan.rows plan.along plan.across plan.channels result }
 {
-    if !is_within(columns, rows, along, across, channels) {
+    if !plan.is_within() {
         return Err(BuildRefusal::OutsideLimits);
     }
-    let mut network = OwnedNetwork::empty(heap, columns * rows)?;
-    add_rows(&mut network, columns, rows, along, channels)?;
-    add_columns(&mut network, columns, rows, across, channels)?;
+    let mut network = OwnedNetwork::empty(heap, plan.columns * plan.rows)?;
+    add_rows(&mut network, plan)?;
+    add_columns(&mut network, plan)?;
     Ok(network)
 }
 
 /// Theorem: in every grid each link has its return link beside it, and the grid's numbers determine it.
-pub fn return_links_stand_beside() -> u8
+pub fn return_links_stand_beside()
     ensures { ReturnLinksStandBeside }
-{
-    0
-}
+{}

@@ -1,40 +1,25 @@
--- A layer with an empty table shows what lies below.
-use Rattle.std.proofs.Common.{◌≡◌, ℕ, suc, ◌+◌, ◌≤◌, min, Bool, true, false, not, ◌&&◌, List, [], ◌∷◌, refl, ap, ◌∙◌, arith}
-use Rattle.std.proofs.lemmas.Bool.{and_parts}
+-- A layer that changes nothing shows what lies below.
+use Rattle.std.proofs.Common.{rules, tests, ◌≡◌, ℕ, suc, ◌≤◌, Bool, true, false, List, [], ◌∷◌, refl, ap, ◌∙◌}
+use Rattle.std.proofs.Math.Bool.{and-true}
 use Rattle.networks.specs.declared.model.Link.{Link}
 use Rattle.networks.specs.Meaning.{Net, Sound, link_sound, all_sound}
-use Rattle.networks.specs.Changing.{numbered, dimmed}
-use Rattle.networks.proofs.Numbering.{numbered_none}
+use Rattle.networks.specs.Changing.{numbered, changed, dimmed, remeasured}
 use Rattle.networks.proofs.Soundness.{limits}
-use Rattle.layers.specs.Shown.{closing, closed_over, charging, charged_over}
 
--- a link that is not closed shows as it is
-not_dimmed : (dark : Bool) (l : Link) → dark ≡ false → dimmed dark l ≡ l
-not_dimmed dark l e =
-    let lit : (b : Bool) → (b && not dark) ≡ b = λ b. ap (λ d. b && not d) e ∙ and_true b in
-    ap (λ b. record { start = l.start; end = l.end; metres = l.metres; poles = l.poles; channels = l.channels; taken = l.taken; lit = b }) (lit l.lit)
-  where
-    and_true : (b : Bool) → (b && true) ≡ b
-    and_true true = refl
-    and_true false = refl
+-- a link that shows neither dark nor with other metres shows as it is
+pub unaltered : (dark : Bool) (raised : ℕ → ℕ) (l : Link) → dark ≡ false → raised l.metres ≡ l.metres → dimmed dark (remeasured raised l) ≡ l
+unaltered dark raised l d m =
+    ap (λ b. dimmed b (remeasured raised l)) d
+    ∙ ap (λ k. dimmed false (remeasured (λ _. k) l)) m
+    ∙ ap (λ b. record { start = l.start; end = l.end; metres = l.metres; poles = l.poles; channels = l.channels; taken = l.taken; lit = b }) (and-true l.lit)
 
--- nothing closed: the links show as they are
-pub nothing_closed : (n : Net) (closed : ℕ → Bool) → ((k : ℕ) → closed k ≡ false) → closed_over closed n ≡ n
-nothing_closed n closed none =
-    ap (λ ls. record { sites = n.sites; links = ls }) (numbered_none (closing closed) (λ j l. not_dimmed (closed j) l (none j)) 0 n.links)
+-- a change that leaves each sound link as it is
+pub numbered_bare : (f : ℕ → Link → Link) (sites : ℕ) → ((j : ℕ) (l : Link) → link_sound sites l ≡ true → f j l ≡ l) → (k : ℕ) (ls : List Link) → all_sound sites ls ≡ true → numbered f k ls ≡ ls
+numbered_bare f sites bare k [] h = refl
+numbered_bare f sites bare k (l ∷ ls) h = search (rules, tests, bare k l, numbered_bare f sites bare (suc k) ls)
 
--- amounts of zero leave sound links as they are
-charged_none : (amount : ℕ → ℕ) → ((k : ℕ) → amount k ≡ 0) → (sites k : ℕ) (ls : List Link) → all_sound sites ls ≡ true → numbered (charging amount) k ls ≡ ls
-charged_none amount none sites k [] h = refl
-charged_none amount none sites k (l ∷ ls) h =
-    let parts = and_parts (link_sound sites l) (all_sound sites ls) h in
-    let most : l.metres ≤ 1000000 = (limits sites l parts.0).metres_high in
-    let nil = none k in
-    let same : min (l.metres + amount k) 1000000 ≡ l.metres = omega arith in
-    ap (λ m. record { start = l.start; end = l.end; metres = m; poles = l.poles; channels = l.channels; taken = l.taken; lit = l.lit } ∷ numbered (charging amount) (suc k) ls) same
-    ∙ ap (λ t. l ∷ t) (charged_none amount none sites (suc k) ls parts.1)
-
--- amounts of zero: the links show as they are
-pub zero_amounts : (n : Net) → Sound n → (amount : ℕ → ℕ) → ((k : ℕ) → amount k ≡ 0) → charged_over amount n ≡ n
-zero_amounts n s amount none =
-    ap (λ ls. record { sites = n.sites; links = ls }) (charged_none amount none n.sites 0 n.links s.each_link)
+-- links that show neither dark nor with other metres: the network shows as it is
+pub bare_shows : (shown : ℕ → Link → Link) (dark : ℕ → Bool) (raised : ℕ → ℕ → ℕ) → ((k : ℕ) (l : Link) → shown k l ≡ dimmed (dark k) (remeasured (raised k) l)) → ((k : ℕ) → dark k ≡ false) → ((k m : ℕ) → m ≤ 1000000 → raised k m ≡ m) → (n : Net) → Sound n → changed shown n ≡ n
+bare_shows shown dark raised shows none same n s =
+    ap (λ ls. record { sites = n.sites; links = ls })
+    (numbered_bare shown n.sites (λ k l h. shows k l ∙ unaltered (dark k) (raised k) l (none k) (same k l.metres (limits n.sites l h).metres_high)) 0 n.links s.each_link)

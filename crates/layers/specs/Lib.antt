@@ -1,4 +1,5 @@
--- What the contracts cite: what layers show and refuse; and the lemma that a law in src/ names (SurchargeLaws).
+-- What the contracts cite: what layers show and refuse; and the lemmas that laws in src/ name (LayerLaws, SurchargeLaws).
 pub mod Shown
 pub mod Refusing
+pub mod LayerLaws
 pub mod SurchargeLaws

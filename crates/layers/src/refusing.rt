@@ -1,9 +1,11 @@
 //! Why the surcharge layer does not set an amount.
-ghost use Rattle.std.specs.Prelude.{◌≡◌};
+ghost use Rattle.std.specs.Prelude.{◌≡◌, Some};
 ghost use Rattle.layers.specs.Refusing.{refusal};
-ghost use Rattle.refusals.specs.Numbers.{number};
+ghost use Rattle.refusals.specs.Numbers.{rule};
 
 use refusals::Refusal;
+use std::error::Error;
+use std::fmt;
 
 /// The link number is too high, or the amount is above 1,000,000.
 #[derive(Clone, Copy, PartialEq, Eq, Debug)]
@@ -12,21 +14,24 @@ pub enum SurchargeRefusal {
     OutsideLimits,
 }
 
-impl SurchargeRefusal {
-    /// Its place in the list of all refusals.
-    pub fn refusal(self) -> Refusal
-        ensures { result ≡ refusal self }
-    {
-        match self {
+impl From<SurchargeRefusal> for Refusal {
+    ghost from_gives = { λ why r. r ≡ refusal why };
+
+    fn from(why: SurchargeRefusal) -> Refusal {
+        match why {
             SurchargeRefusal::LinkTooHigh => Refusal::LinkTooHigh,
             SurchargeRefusal::OutsideLimits => Refusal::OutsideLimits,
         }
     }
+}
 
-    /// Its number in that list.
-    pub fn number(self) -> u8
-        ensures { result ≡ number (refusal self) }
-    {
-        self.refusal().number()
+// An `impl` for each enum: one for whatever converts to a refusal would be one for types of other crates too.
+impl fmt::Display for SurchargeRefusal {
+    ghost output = { λ why. Some (rule (refusal why)) };
+
+    fn fmt<W: fmt::Write>(&self, f: &mut fmt::Formatter<W>) -> fmt::Result {
+        Refusal::from(*self).fmt(f)
     }
 }
+
+impl Error for SurchargeRefusal {}

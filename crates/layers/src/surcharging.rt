@@ -1,33 +1,52 @@
-//! What the surcharge layer does: amounts are set, and it meets the trait of networks.
-ghost use Rattle.std.specs.Prelude.{◌≡◌, ℕ, true, is_ok, is_err, if◌then◌else◌, nat_eq, refl};
-ghost use Rattle.std.proofs.Common.{◌∙◌, ap, rules};
-ghost use Rattle.layers.specs.Shown.{amounts, charged_over, charging};
+//! What the surcharge layer does beyond every layer: amounts are set.
+ghost use Rattle.std.specs.Prelude.{◌≡◌, ℕ, ◌+◌, min, true, false, is_ok, is_err, if◌then◌else◌, nat_eq};
+ghost use Rattle.std.proofs.Common.{rules};
+ghost use Rattle.layers.specs.Shown.{amount_on, amounts, charging, charged_over};
 ghost use Rattle.layers.specs.Refusing.{surcharge_answer};
-ghost use Rattle.networks.proofs.Layering.{sound_changed, alike_changed};
-ghost use Rattle.layers.specs.SurchargeLaws.{sound_charged};
-ghost use Rattle.networks.specs.Changing.{cleared};
+ghost use Rattle.layers.specs.SurchargeLaws.{charged_shows, charged_more, charged_most, charged_none};
 
+use crate::change::Change;
 use crate::refusing::SurchargeRefusal;
-use crate::surcharged::Surcharge;
-use networks::model::NetworkRefusal;
+use crate::surcharged::{Surcharge, Surcharges};
 use networks::network::Network;
 
 // The most that an amount, and the metres shown, may be.
 const MOST: u32 = 1_000_000;
 
-impl<N: Network> Surcharge<N> {
-    /// A layer over a network, with every amount zero.
-    pub fn over(below: N) -> Surcharge<N>
-        ensures below { result.below ≡ below }
-        ensures zero { (k : ℕ) → amounts result k ≡ 0 }
-        ensures shows { charged_over (amounts result) (N.Network.meaning below) ≡ N.Network.meaning below }
-    {
-        Surcharge {
-            below,
-            amounts: [0; 2048],
-        }
+impl Change for Surcharges {
+    ghost shown = { λ s. charging (amount_on s) };
+
+    ghost dark = { λ _ _. false };
+
+    ghost raised = { λ s k metres. min (metres + amount_on s k) 1000000 };
+
+    ghost nothing = { λ s. (k : ℕ) → amount_on s k ≡ 0 };
+
+    ghost shows = { λ s k l. charged_shows (amount_on s) k l };
+
+    ghost more = { λ s k m. charged_more (amount_on s) k m };
+
+    ghost most = { λ s k m h. charged_most (amount_on s) k m };
+
+    ghost none_dark = { Prim.search rules };
+
+    ghost none_raised = { λ s nil k m. charged_none (amount_on s) nil k m };
+
+    fn none() -> Surcharges {
+        Surcharges { amounts: [0; 2048] }
     }
 
+    fn is_dark(&self, _link: u16) -> bool {
+        false
+    }
+
+    fn metres(&self, link: u16, below: u32) -> u32 {
+        let amount = self.amounts.get(usize::from(link)).copied().unwrap_or(0);
+        below.saturating_add(amount).min(MOST)
+    }
+}
+
+impl<N: Network> Surcharge<N> {
     /// Sets the amount on a link, in the place of the one before.
     pub fn surcharge(&mut self, link: u16, amount: u32) -> Result<(), SurchargeRefusal>
         ensures answer { result ≡ surcharge_answer (N.Network.meaning self.old.below) link amount }
@@ -41,67 +60,12 @@ impl<N: Network> Surcharge<N> {
         if amount > MOST {
             return Err(SurchargeRefusal::OutsideLimits);
         }
-        self.amounts[link as usize] = amount;
+        self.change.amounts[usize::from(link)] = amount;
         Ok(())
     }
-
-    /// Hands the network below out again.
-    pub fn into_below(self) -> N
-        ensures { result ≡ self.below }
-    {
-        let Surcharge { below, amounts: _ } = self;
-        below
-    }
 }
 
-impl<N: Network> Network for Surcharge<N> {
-    ghost meaning = { λ s. charged_over (amounts s) (N.Network.meaning s.below) };
-
-    ghost kept = { λ a b. (a.amounts ≡ b.amounts) × N.Network.kept a.below b.below };
-
-    ghost sound = { λ n.
-        let below = N.Network.meaning n.below in
-        sound_changed (charging (amounts n)) below (λ j l. sound_charged (amounts n) below.sites j l) (N.Network.sound n.below) };
-
-    ghost reflexive = { Prim.search rules };
-
-    ghost transitive = { λ a b c x y. (x.0 ∙ y.0, N.Network.transitive a.below b.below c.below x.1 y.1) };
-
-    ghost alike = { λ a b x.
-        alike_changed (charging (amounts a)) (λ h j l. refl) (N.Network.meaning a.below) (N.Network.meaning b.below) (N.Network.alike a.below b.below x.1)
-        ∙ ap (λ t. cleared (charged_over (λ k. amounts {N = N} (record { below = b.below; amounts = t }) k) (N.Network.meaning b.below))) x.0 };
-
-    fn sites(&self) -> u16 {
-        self.below.sites()
-    }
-
-    fn links(&self) -> u16 {
-        self.below.links()
-    }
-
-    fn ends(&self, link: u16) -> Result<(u16, u16), NetworkRefusal> {
-        self.below.ends(link)
-    }
-
-    fn lengths(&self, link: u16) -> Result<(u32, u32), NetworkRefusal> {
-        let (metres, poles) = self.below.lengths(link)?;
-        let raised = metres.saturating_add(self.amounts[link as usize]);
-        Ok((raised.min(MOST), poles))
-    }
-
-    fn channels(&self, link: u16) -> Result<(u16, u16), NetworkRefusal> {
-        self.below.channels(link)
-    }
-
-    fn is_lit(&self, link: u16) -> Result<bool, NetworkRefusal> {
-        self.below.is_lit(link)
-    }
-
-    fn take(&mut self, link: u16) -> Result<(), NetworkRefusal> {
-        self.below.take(link)
-    }
-
-    fn give(&mut self, link: u16) -> Result<(), NetworkRefusal> {
-        self.below.give(link)
-    }
-}
+/// Theorem: a surcharge layer means the network below with each link's amount added to its metres.
+pub fn surcharge_shows<N: Network>(layer: &Surcharge<N>)
+    ensures { ⟦<Surcharge<N> as Network>⟧.meaning layer.now ≡ charged_over (amounts layer.now) (N.Network.meaning layer.now.below) }
+{}

@@ -5,7 +5,7 @@ use Rattle.costs.specs.Costs.{Ops, Laws}
 use Rattle.least_pairs.specs.Views.{View, without}
 use Rattle.least_pairs.specs.Runs.{Label, State}
 use Rattle.least_pairs.specs.Laws.{RunLaws}
-use Rattle.least_pairs.specs.Plans.{first_job, second_job, first_run, second_run, Answer, no_route, one_link, pair, answered, answer, root_entry, entry_of, survey}
+use Rattle.least_pairs.specs.Plans.{first_job, second_job, Answer, no_route, one_link, pair, answered, answer, root_entry, entry_of, survey}
 use Rattle.least_pairs.specs.Rightness.{Says, Exactly, NoSiteTwice, RightEntry}
 use Rattle.least_pairs.specs.Theorems.{RightSurvey}
 use Rattle.least_pairs.proofs.Sight.{SoundView}
@@ -44,11 +44,7 @@ module _ {C : Type 0} {k : Ops C} (laws : Laws k) (v : View C) (sight : SoundVie
   -- what an answer says is true
   pub says : (target : ℕ) → (root ≡ target → ⊥) → Says k v root target (answer k v root target)
   unfolding answer
-  says target apart =
-      let first = first_run k v root in
-      let fl = first_laws laws v sight root inside in
-      let second = second_run k v root first in
-      says_answered target apart first second fl (second_laws laws v sight root inside first fl) (first.labels target) (second.labels target) refl refl
+  says target apart = grind (arith, first_laws laws v sight, says_answered, second_laws laws v sight)
 
   -- no route of a pair that the two runs left visits a site twice
   short_answered : (target : ℕ) → (root ≡ target → ⊥) → (first second : State C) (fl : RunLaws k (first_job v) root first) (sl : RunLaws k (second_job k v root first) root second) (a b : Option (Label C)) → first.labels target ≡ a → second.labels target ≡ b → NoSiteTwice v root (answered k v root target first second a b)
@@ -59,11 +55,7 @@ module _ {C : Type 0} {k : Ops C} (laws : Laws k) (v : View C) (sight : SoundVie
   -- no route of an answered pair visits a site twice
   pub no_site_twice : (target : ℕ) → (root ≡ target → ⊥) → NoSiteTwice v root (answer k v root target)
   unfolding answer
-  no_site_twice target apart =
-      let first = first_run k v root in
-      let fl = first_laws laws v sight root inside in
-      let second = second_run k v root first in
-      short_answered target apart first second fl (second_laws laws v sight root inside first fl) (first.labels target) (second.labels target) refl refl
+  no_site_twice target apart = grind (arith, first_laws laws v sight, short_answered, second_laws laws v sight)
 
   -- an entry made from a true answer is right
   entry_says : (w : ℕ) (a : Answer C) → Says k v root w a → RightEntry k v root w (entry_of a)

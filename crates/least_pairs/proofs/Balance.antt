@@ -1,6 +1,6 @@
 -- The flow of two from the root to a target that the second run's labels give, and the pair read from it.
-use Rattle.std.proofs.Common.{◌≡◌, ℕ, ◌+◌, ◌<◌, ◌≤◌, Bool, true, false, not, ◌&&◌, ◌||◌, eqb, ◌⊎◌, List, [], ◌∷◌, ◌++◌, map, Some, sym, refl, ap, ◌∙◌, subst, inl, inr, append_assoc, arith}
-use Rattle.std.proofs.lemmas.Bool.{cases_Bool, eqb-true, both_ways, cases_eq, and_parts, or_cases, not-true}
+use Rattle.std.proofs.Common.{◌≡◌, ℕ, ◌+◌, ◌<◌, ◌≤◌, Bool, true, false, ◌⊎◌, List, [], ◌∷◌, ◌++◌, map, Some, sym, refl, ap, ◌∙◌, subst, inl, inr, append_assoc, arith}
+use Rattle.std.proofs.lemmas.Bool.{both_ways, cases_eq, false_from_ne_true}
 use Rattle.costs.specs.Costs.{Ops, Laws, Le, total}
 use Rattle.costs.specs.Counting.{hit, occurs}
 use Rattle.costs.proofs.Counted.{hit_self, total_counted}
@@ -16,12 +16,16 @@ use Rattle.least_pairs.specs.Rightness.{Short}
 use Rattle.least_pairs.specs.Laws.{Moment, RunLaws}
 use Rattle.least_pairs.proofs.Sight.{SoundView}
 use Rattle.least_pairs.proofs.Listed.{has_tail, has_cases, occurs_append}
-use Rattle.least_pairs.proofs.Tree.{moment_has, moment_new, root_reached, up_reached}
-use Rattle.least_pairs.proofs.Pieces.{top_of, top_joined, some_same, top_all, top_above}
+use Rattle.least_pairs.proofs.Moments.{moment_has}
+use Rattle.least_pairs.proofs.Older.{moment_one}
+use Rattle.least_pairs.proofs.Second.{second_considered}
+use Rattle.least_pairs.proofs.Tree.{moment_new, root_reached, up_reached}
+use Rattle.least_pairs.proofs.Options.{some_same}
+use Rattle.least_pairs.proofs.Pieces.{top_of, top_joined, top_all, top_above}
 use Rattle.least_pairs.proofs.Climbs.{tree_of, Climb, climb_links, climb_of, climb_over, climb_under, climb_apart, climb_reached, climb_not_root, climb_balance, climb_once, climb_link, climb_free}
 use Rattle.least_pairs.proofs.Parting.{top_between, top_inner, joined_has_top}
 use Rattle.least_pairs.proofs.Cycles.{Acyclic, OnTree, tree_starts, tree_acyclic, acyclic_join, short_walk}
-use Rattle.least_pairs.proofs.Feeding.{Feeds, Enters, Leads, grown, moment_unique, occurs_map_append, exclusive, either, marks_past, marks_root, tree_link_is}
+use Rattle.least_pairs.proofs.Feeding.{Feeds, Enters, Leads, grown, occurs_map_append, exclusive, either, marks_past, marks_root, tree_link_is}
 use Rattle.least_pairs.proofs.Walking.{FlowOfTwo, walks_within, walks_pair, walks_cost}
 
 -- what feeds a site by the sites struck up to it feeds it by more
@@ -50,7 +54,7 @@ module _ {C : Type 0} {k : Ops C} (laws : Laws k) (v : View C) (sound : SoundVie
   -- nothing feeds the root
   feeds_root : (ys : List ℕ) → Moment second.order root ys → Feeds k v root first second (root ∷ ys) root
   feeds_root ys m =
-      let none : ys ≡ [] = moment_unique sl root ys [] m sl.root_first in
+      let none : ys ≡ [] = moment_one (sl.once root) sl.root_first m in
       let unmarked : marks second.labels root (root ∷ ys) root ≡ [] = marks_root second.labels root ys in
       record {
         before = ys;
@@ -84,22 +88,15 @@ module _ {C : Type 0} {k : Ops C} (laws : Laws k) (v : View C) (sound : SoundVie
         later = now.later ++ t ∷ feed.moment.later;
         whole = now.whole ∙ ap (λ Y. now.later ++ t ∷ Y) feed.moment.whole ∙ sym (append_assoc now.later (t ∷ feed.moment.later) (q ∷ S));
       } in
-      let at_once : r.0 ≡ S = moment_unique sl q r.0 S r.2.moment then in
+      let at_once : r.0 ≡ S = moment_one (sl.once q) then r.2.moment in
       let considers : (second_job k v root first).considers q S e ≡ true = subst (λ Y. (second_job k v root first).considers q Y e ≡ true) at_once r.2.considers in
-      let a = and_parts (v.usable e && not (tree_link v first root e)) ((joined (up first) S q (v.start e) && joined (up first) S q (v.end e)) && (not (eqb (v.end e) q) && (eqb (v.start e) q || not (joined (up first) (q ∷ S) (v.start e) (v.end e))))) considers in
-      let b = and_parts (v.usable e) (not (tree_link v first root e)) a.0 in
-      let c = and_parts (joined (up first) S q (v.start e) && joined (up first) S q (v.end e)) (not (eqb (v.end e) q) && (eqb (v.start e) q || not (joined (up first) (q ∷ S) (v.start e) (v.end e)))) a.1 in
-      let j = and_parts (joined (up first) S q (v.start e)) (joined (up first) S q (v.end e)) c.0 in
-      let f = and_parts (not (eqb (v.end e) q)) (eqb (v.start e) q || not (joined (up first) (q ∷ S) (v.start e) (v.end e))) c.1 in
-      let hu : top_of first S (v.start e) ≡ Some feed.z = joined_has_top fl S q (v.start e) feed.z feed.is_top j.0 in
-      let ht : top_of first S t ≡ Some feed.z = subst (λ w. top_of first S w ≡ Some feed.z) r.3 (joined_has_top fl S q (v.end e) feed.z feed.is_top j.1) in
+      let c = second_considered k v root first q S e considers in
+      let hu : top_of first S (v.start e) ≡ Some feed.z = joined_has_top fl S q (v.start e) feed.z feed.is_top c.start_in in
+      let ht : top_of first S t ≡ Some feed.z = subst (λ w. top_of first S w ≡ Some feed.z) r.3 (joined_has_top fl S q (v.end e) feed.z feed.is_top c.end_in) in
       let parted : (v.start e ≡ q) ⊎ (joined (up first) (q ∷ S) (v.start e) t ≡ false) =
-      elim (or_cases (eqb (v.start e) q) (not (joined (up first) (q ∷ S) (v.start e) (v.end e))) f.1) [
-        | inl s ↦ inl (eqb-true (v.start e) q s)
-        | inr n ↦ inr (subst (λ w. joined (up first) (q ∷ S) (v.start e) w ≡ false) r.3 (not-true (joined (up first) (q ∷ S) (v.start e) (v.end e)) n))
-      ] in
+      elim c.parts [ inl s ↦ inl s | inr n ↦ inr (subst (λ w. joined (up first) (q ∷ S) (v.start e) w ≡ false) r.3 n) ] in
       let cost : m.cost ≡ k.plus feed.label.cost (reduced k v first e) = r.5 ∙ ap (λ l. k.plus l.cost (reduced k v first e)) (some_same r.4 feed.labelled) in
-      grown laws v sound fl ys t m labelled d (moment_new sl t ys now) feed b.0 (not-true (tree_link v first root e) b.1) r.3 hu ht parted cost
+      grown laws v sound fl ys t m labelled d (moment_new sl t ys now) feed c.usable c.no_tree r.3 hu ht parted cost
 
   -- every struck site is fed
   feeds : (Z front : List ℕ) → second.order ≡ front ++ Z → (q : ℕ) → has q Z ≡ true → Feeds k v root first second Z q
@@ -174,14 +171,7 @@ module _ {C : Type 0} {k : Ops C} (laws : Laws k) (v : View C) (sound : SoundVie
   closed_either e h = either (occurs e (climb_links first last.0)) (occurs e feed.links) (omega (arith, closed_parts e))
 
   closed_balance : (x : ℕ) → hit x target + (hit x target + occurs x (map v.start closed)) ≡ hit x root + (hit x root + occurs x (map v.end closed))
-  closed_balance x =
-      omega (
-        arith,
-        feed.balance x,
-        climb_balance laws v sound fl x target feed.z last.0 last.1 z_reached,
-        occurs_map_append v.start x (climb_links first last.0) feed.links,
-        occurs_map_append v.end x (climb_links first last.0) feed.links,
-      )
+  closed_balance x = grind (arith, climb_balance laws v sound fl, last, z_reached, occurs_map_append)
 
   -- together they are a flow of two from the root to the target
   closed_flow : FlowOfTwo v first second root target closed
@@ -189,10 +179,7 @@ module _ {C : Type 0} {k : Ops C} (laws : Laws k) (v : View C) (sound : SoundVie
     balance = λ x. omega (arith, closed_balance x);
     once = λ e. omega (arith, closed_parts e, exclusive (occurs e (climb_links first last.0)) (occurs e feed.links) (climb_once laws v sound fl e target feed.z last.0 last.1 z_reached) (feed.once e) (last_old e));
     marked = λ x h. let p = feed.marked x h in (omega (arith, p.0, closed_parts (link_of (second.labels x))), p.1);
-    kinds = λ e h. elim (closed_either e h) [
-      | inl i ↦ inr (in_last e i).0
-      | inr i ↦ elim (feed.kinds e i) [ inl p ↦ inl (p.is, p.marked) | inr p ↦ inr p.is ]
-    ];
+    kinds = λ e h. grind (arith, closed_either, in_last, feed.kinds);
     usable = λ e h. elim (closed_either e h) [ inl i ↦ (in_last e i).2 | inr i ↦ feed.usable e i ];
   }
 
@@ -232,10 +219,7 @@ module _ {C : Type 0} {k : Ops C} (laws : Laws k) (v : View C) (sound : SoundVie
 
   old_outside : (e : ℕ) → 1 ≤ occurs e feed.links → in_last_piece (v.start e) ≡ false
   old_outside e i =
-      elim (cases_Bool (in_last_piece (v.start e))) [
-        | inl h ↦ absurd (feed.leaves e i (joined_has_top fl feed.before target (v.start e) feed.z feed.is_top h))
-        | inr f ↦ f
-      ]
+      false_from_ne_true (in_last_piece (v.start e)) (λ h. feed.leaves e i (joined_has_top fl feed.before target (v.start e) feed.z feed.is_top h))
 
   -- it has no cycle
   closed_acyclic : Acyclic v closed

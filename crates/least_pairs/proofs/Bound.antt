@@ -1,6 +1,6 @@
 -- The lower bound: no pair to a site costs less than its second label and twice its distance.
 use Rattle.std.proofs.Common.{◌≡◌, ℕ, ◌≤◌, true, false, cond, ◌⊎◌, List, [], ◌∷◌, ◌++◌, Some, sym, ap, ◌∙◌, subst, inl, inr, arith}
-use Rattle.std.proofs.lemmas.Bool.{both_ways, cases_Bool, cond-true, cond-false}
+use Rattle.std.proofs.lemmas.Bool.{both_ways, cases_Bool, cond-true, false_from_ne_true}
 use Rattle.costs.specs.Costs.{Ops, Laws, Le, total}
 use Rattle.costs.specs.Counting.{occurs}
 use Rattle.costs.proofs.Order.{le_same, le_trans, le_plus_right, le_difference, le_cancel}
@@ -15,11 +15,11 @@ use Rattle.least_pairs.specs.Laws.{RunLaws}
 use Rattle.least_pairs.proofs.Sight.{SoundView}
 use Rattle.least_pairs.proofs.Listed.{lacks_head, has_head, has_right, has_append, has_occurs, occurs_append, moment_of}
 use Rattle.least_pairs.proofs.Tree.{root_reached, moment_new, parent_reached, up_self, up_more, up_reached}
-use Rattle.least_pairs.proofs.Pieces.{joined_sym, joined_trans, joined_refl, joined_free, joined_climb, joined_between, joined_all, joined_fewer}
+use Rattle.least_pairs.proofs.Pieces.{joined_sym, joined_trans, joined_refl, joined_free, joined_climb, joined_between, joined_all, joined_fewer, joined_before}
 use Rattle.least_pairs.proofs.Distances.{root_distance, link_reaches, reduced_least, tree_link_of, tree_link_true}
 use Rattle.least_pairs.proofs.Walks.{walk_usable, walk_starts, rise, total_rise, total_reduced, total_charged}
 use Rattle.least_pairs.proofs.TreeRoutes.{tree_route_walk, tree_route_has, tree_route_from}
-use Rattle.least_pairs.proofs.Strikes.{split_cases, rising_cost, later_cost, Parting, joined_before, parted, parting_offers}
+use Rattle.least_pairs.proofs.Strikes.{split_cases, rising_cost, later_cost, Parting, parted, parting_offers}
 
 -- the potential of a site for a target: the cost of the strike that parts the two, by the strikes, newest first
 abbrev pub potential : {C : Type 0} → Ops C → State C → State C → ℕ → List ℕ → ℕ → C
@@ -30,28 +30,16 @@ module _ {C : Type 0} {k : Ops C} {v : View C} {root : ℕ} {first second : Stat
   -- the potential over the strikes up to a parting
   potential_in : (t w x : ℕ) (mid S : List ℕ) → joined (up first) S w t ≡ true → joined (up first) (x ∷ S) w t ≡ false → potential k first second t (mid ++ x ∷ S) w ≡ cost_of k (second.labels x)
   potential_in t w x [] S h f = cond-true (joined (up first) S w t) (cost_of k (second.labels x)) (potential k first second t S w) h
-  potential_in t w x (y ∷ mid) S h f =
-      let apart : joined (up first) (mid ++ x ∷ S) w t ≡ false =
-      elim (cases_Bool (joined (up first) (mid ++ x ∷ S) w t)) [
-        | inl q ↦ absurd (both_ways (joined (up first) (x ∷ S) w t) f (joined_before laws sound tree run mid (x ∷ S) w t q))
-        | inr q ↦ q
-      ] in
-      cond-false (joined (up first) (mid ++ x ∷ S) w t) (cost_of k (second.labels y)) (potential k first second t (mid ++ x ∷ S) w) apart
-      ∙ potential_in t w x mid S h f
+  potential_in t w x (y ∷ mid) S h f = grind (arith, false_from_ne_true, joined_before tree, potential_in t w x mid S h f)
 
   -- the potential is the cost of the strike that parts
   pub potential_parted : (t w x : ℕ) (S : List ℕ) → Parting first second w t x S → potential k first second t second.order w ≡ cost_of k (second.labels x)
-  potential_parted t w x S p =
-      ap (λ o. potential k first second t o w) p.moment.whole
-      ∙ potential_in t w x p.moment.later S p.together p.apart
+  potential_parted t w x S p = grind (arith, potential_in)
 
   -- a struck site is joined to none
   struck_apart : (S : List ℕ) (w t : ℕ) → has w S ≡ true → joined (up first) S w t ≡ false
   struck_apart S w t h =
-      elim (cases_Bool (joined (up first) S w t)) [
-        | inl q ↦ absurd (both_ways (has w S) (joined_free tree S w t q) h)
-        | inr q ↦ q
-      ]
+      false_from_ne_true (joined (up first) S w t) (λ q. both_ways (has w S) (joined_free tree S w t q) h)
 
   module _ (t : ℕ) (reached : has t first.order ≡ true) (struck : has t second.order ≡ true) where
     -- the potential for the target
@@ -60,12 +48,7 @@ module _ {C : Type 0} {k : Ops C} {v : View C} {root : ℕ} {first second : Stat
 
     -- every reached site was parted from the target
     pub target_parted : (w : ℕ) → has w first.order ≡ true → (x : ℕ) × (S : List ℕ) × Parting first second w t x S
-    target_parted w h =
-        parted laws sound tree run w t h reached
-        (elim (cases_Bool (joined (up first) second.order w t)) [
-          | inl q ↦ absurd (both_ways (joined (up first) second.order t w) (struck_apart second.order t w struck) (joined_sym tree second.order w t q))
-          | inr q ↦ q
-        ])
+    target_parted w h = grind (arith, parted laws sound tree run, false_from_ne_true, struck_apart, joined_sym tree)
 
     -- the target's potential is its own cost
     pub potential_target : for_target t ≡ cost_of k (second.labels t)
@@ -89,34 +72,17 @@ module _ {C : Type 0} {k : Ops C} {v : View C} {root : ℕ} {first second : Stat
 
     -- where a site is joined to the target whenever another is, that other has at most its potential
     pub potential_le : (a b : ℕ) → has a first.order ≡ true → has b first.order ≡ true → ((S : List ℕ) → joined (up first) S a t ≡ true → joined (up first) S b t ≡ true) → Le k (for_target a) (for_target b)
-    potential_le a b ha hb follows =
-        let p = target_parted a ha in
-        let q = target_parted b hb in
-        let le : Le k (cost_of k (second.labels p.0)) (cost_of k (second.labels q.0)) =
-        elim (split_cases p.2.moment.later q.2.moment.later p.0 q.0 p.1 q.1 (sym p.2.moment.whole ∙ q.2.moment.whole)) [
-          | inl e ↦ le_same laws (ap (λ z. cost_of k (second.labels z)) e.0)
-          | inr (inl e) ↦
-              absurd (both_ways (joined (up first) (q.0 ∷ q.1) b t) q.2.apart
-              (joined_before laws sound tree run e.0 (q.0 ∷ q.1) b t (subst (λ S. joined (up first) S b t ≡ true) e.1 (follows p.1 p.2.together))))
-          | inr (inr e) ↦
-              rising_cost laws run q.0 q.1 q.2.moment p.0
-              (subst (λ S. has p.0 S ≡ true) (sym e.1) (has_right p.0 e.0 (p.0 ∷ p.1) (has_head p.0 p.1)))
-        ] in
-        subst (λ c. Le k c (for_target b)) (sym (potential_parted t a p.0 p.1 p.2))
-        (subst (λ c. Le k (cost_of k (second.labels p.0)) c) (sym (potential_parted t b q.0 q.1 q.2)) le)
+    potential_le a b ha hb follows = grind (arith, target_parted, split_cases, le_same laws, joined_before tree, rising_cost laws run, has_right, has_head, potential_parted)
 
     -- a link whose start was parted from the target before its end was considered then, so that end costs at most as much more
     potential_later : (e x y : ℕ) (S T mid : List ℕ) → v.usable e ≡ true → tree_link v first root e ≡ false → Parting first second (v.start e) t x S → Parting first second (v.end e) t y T → T ≡ mid ++ x ∷ S → Le k (cost_of k (second.labels y)) (k.plus (cost_of k (second.labels x)) (reduced k v first e))
     potential_later e x y S T mid h nt p q d =
         let a = v.start e in
         let b = v.end e in
-        let bt : joined (up first) (x ∷ S) b t ≡ true = joined_before laws sound tree run mid (x ∷ S) b t (subst (λ l. joined (up first) l b t ≡ true) d q.together) in
+        let bt : joined (up first) (x ∷ S) b t ≡ true = joined_before tree mid (x ∷ S) b t (subst (λ l. joined (up first) l b t ≡ true) d q.together) in
         let ab : joined (up first) S a b ≡ true = joined_trans tree S a t b p.together (joined_sym tree S b t (joined_fewer tree x S b t bt)) in
         let parts : joined (up first) (x ∷ S) a b ≡ false =
-        elim (cases_Bool (joined (up first) (x ∷ S) a b)) [
-          | inl j ↦ absurd (both_ways (joined (up first) (x ∷ S) a t) p.apart (joined_trans tree (x ∷ S) a b t j bt))
-          | inr f ↦ f
-        ] in
+        false_from_ne_true (joined (up first) (x ∷ S) a b) (λ j. both_ways (joined (up first) (x ∷ S) a t) p.apart (joined_trans tree (x ∷ S) a b t j bt)) in
         let o = parting_offers laws sound tree run e x S h nt (record { moment = p.moment; together = ab; apart = parts }) (lacks_head b x S (joined_free tree (x ∷ S) b t bt)) in
         le_trans laws (later_cost laws run y T q.moment b (run.is_settled b o.0 o.1) (joined_free tree T b t q.together))
         (subst (λ c. Le k c (k.plus (cost_of k (second.labels x)) (reduced k v first e))) (sym (ap (cost_of k) o.1)) o.2)
@@ -210,15 +176,9 @@ module _ {C : Type 0} {k : Ops C} {v : View C} {root : ℕ} {first second : Stat
         let c = cost_of k (second.labels t) in
         let single : (e : ℕ) → occurs e (one ++ two) ≤ 1 = λ e. omega (arith, occurs_append e one two, p.apart e) in
         let usable : (e : ℕ) → has e (one ++ two) ≡ true → v.usable e ≡ true =
-        λ e h. elim (has_append e one two h) [
-          | inl a ↦ walk_usable v one root t p.first.leads e a
-          | inr b ↦ walk_usable v two root t p.second.leads e b
-        ] in
+        λ e h. grind (arith, has_append, walk_usable v, p.first.leads, p.second.leads) in
         let starts : (e : ℕ) → has e (one ++ two) ≡ true → has (v.start e) first.order ≡ true =
-        λ e h. elim (has_append e one two h) [
-          | inl a ↦ walk_starts laws sound tree one root t p.first.leads (root_reached tree) e a
-          | inr b ↦ walk_starts laws sound tree two root t p.second.leads (root_reached tree) e b
-        ] in
+        λ e h. grind (arith, has_append, walk_starts laws sound tree, root_reached tree, p.first.leads, p.second.leads) in
         let charged : Le k (total k f (one ++ two)) (k.plus (total k g (one ++ two)) (total k f target_route)) =
         total_charged laws v f g (one ++ two) target_route single
         (λ e h. rise_most e (usable e h) (starts e h))

@@ -1,7 +1,7 @@
 -- Climbs on the tree of the first run: the tree links that lead from a site down to one below it.
-use Rattle.std.proofs.Common.{◌≡◌, ℕ, ◌+◌, ◌≤◌, true, false, cond, List, [], ◌∷◌, ◌++◌, map, sym, refl, ap, ◌∙◌, subst, inl, inr, arith}
+use Rattle.std.proofs.Common.{◌≡◌, ℕ, ◌+◌, ◌≤◌, true, false, List, [], ◌∷◌, ◌++◌, map, sym, refl, ap, ◌∙◌, subst, inl, inr, arith}
 use mathlib.Core.List.{head-eq_of_cons-eq, tail-eq_of_cons-eq}
-use Rattle.std.proofs.lemmas.Bool.{eq-eqb, ne_eqb, both_ways, cases_eq}
+use Rattle.std.proofs.lemmas.Bool.{both_ways, cases_eq}
 use Rattle.costs.specs.Costs.{Ops, Laws, total}
 use Rattle.costs.specs.Counting.{hit, occurs}
 use Rattle.least_pairs.specs.Views.{View}
@@ -10,8 +10,8 @@ use Rattle.least_pairs.specs.Trees.{parent}
 use Rattle.least_pairs.specs.Plans.{up, first_job, link_of, reduced}
 use Rattle.least_pairs.specs.Laws.{RunLaws}
 use Rattle.least_pairs.proofs.Sight.{SoundView}
-use Rattle.least_pairs.proofs.Distances.{tree_link_of, tree_reduced}
-use Rattle.least_pairs.proofs.Listed.{has_head, has_tail, has_cases, has_right, has_left, has_occurs, occurs_has, occurs_append}
+use Rattle.least_pairs.proofs.Distances.{TreeLinkOf, tree_link_of, tree_reduced}
+use Rattle.least_pairs.proofs.Listed.{has_head, has_tail, has_cases, has_right, has_left, has_occurs, occurs_has, occurs_append, hit_other}
 use Rattle.least_pairs.proofs.Walking.{occurs_map_from}
 use Rattle.least_pairs.proofs.Tree.{by_parents, up_root, up_other, up_once, up_reached, up_settled, up_self, up_cases, up_antisym}
 
@@ -19,33 +19,16 @@ use Rattle.least_pairs.proofs.Tree.{by_parents, up_root, up_other, up_once, up_r
 abbrev pub tree_of : {C : Type 0} → State C → ℕ → ℕ
 tree_of first w = link_of (first.labels w)
 
--- the facts of a tree link: it is usable, leads from the site's parent to the site, and its reduced cost is zero
-pub record Branch {C : Type 0} (k : Ops C) (v : View C) (first : State C) (w : ℕ) : Type 0 where
-  pub usable : v.usable (tree_of first w) ≡ true
-  pub starts : v.start (tree_of first w) ≡ parent first.labels w
-  pub ends : v.end (tree_of first w) ≡ w
-  pub free : reduced k v first (tree_of first w) ≡ k.zero
-
 -- a climb: the sites above one from itself on until another comes
 abbrev pub Climb : {C : Type 0} → State C → ℕ → ℕ → List ℕ → Type 0
 Climb first w a X = up first w ≡ X ++ up first a
-
-module _ {C : Type 0} {k : Ops C} (laws : Laws k) (v : View C) (sound : SoundView k v) {root : ℕ} {first : State C} (fl : RunLaws k (first_job v) root first) where
-  -- every reached site but the root has such a tree link
-  pub branch : (w : ℕ) → has w first.order ≡ true → (w ≡ root → ⊥) → Branch k v first w
-  branch w h d =
-      let t = tree_link_of laws sound fl w h d in
-      record { usable = t.usable; starts = t.starts; ends = t.ends; free = tree_reduced laws sound fl w h d }
 
 module _ {C : Type 0} {k : Ops C} {j : Job C} {root : ℕ} {first : State C} (fl : RunLaws k j root first) where
   -- a site climbs to each that is above it
   pub climb_of : (a w : ℕ) → has a (up first w) ≡ true → (X : List ℕ) × Climb first w a X
   climb_of a w h =
       by_parents fl (λ z. has a (up first z) ≡ true → (X : List ℕ) × Climb first z a X)
-      (λ g. elim (up_cases fl a root g) [
-        | inl e ↦ ([], ap (up first) (sym e))
-        | inr t ↦ absurd (t.0 refl)
-      ])
+      (λ g. grind (arith, up_cases fl))
       (λ z hz d ih g. elim (up_cases fl a z g) [
         | inl e ↦ ([], ap (up first) (sym e))
         | inr t ↦ let p = ih t.1 in (z ∷ p.0, up_other fl z hz d ∙ ap (λ us. z ∷ us) p.1)
@@ -57,9 +40,7 @@ module _ {C : Type 0} {k : Ops C} {j : Job C} {root : ℕ} {first : State C} (fl
 
   -- a climb of no site stays
   pub climb_none : (w a : ℕ) → Climb first w a [] → has a first.order ≡ true → w ≡ a
-  climb_none w a c ha =
-      let above = climb_above w a [] c ha in
-      up_antisym fl w a (sym (ap (has w) c) ∙ up_self fl w (up_settled fl a w above)) above
+  climb_none w a c ha = grind (arith, climb_above, up_antisym fl, up_self fl, up_settled fl)
 
   -- a longer climb begins with the site, and goes on from its parent
   pub climb_step : (w a x : ℕ) (X : List ℕ) → Climb first w a (x ∷ X) → has a first.order ≡ true → (x ≡ w) × (w ≡ root → ⊥) × (has w first.order ≡ true) × Climb first (parent first.labels w) a X
@@ -110,12 +91,9 @@ occurs_images f g e (x ∷ X) h =
     let rest = occurs_images f g e X (λ y t. h y (has_tail y x X t)) in
     elim (cases_eq e (f x)) [
       | inl s ↦
-          let one : hit e (f x) ≡ 1 = ap (λ b. cond b 1 0) (eq-eqb e (f x) s) in
-          let same : hit (g e) x ≡ 1 = ap (λ b. cond b 1 0) (eq-eqb (g e) x (ap g s ∙ h x (has_head x X))) in
-          omega arith
+          grind (arith, has_head)
       | inr d ↦
-          let none : hit e (f x) ≡ 0 = ap (λ b. cond b 1 0) (ne_eqb e (f x) d) in
-          omega arith
+          omega (arith, hit_other e (f x) d)
     ]
 
 -- the links of a climb
@@ -123,15 +101,16 @@ abbrev pub climb_links : {C : Type 0} → State C → List ℕ → List ℕ
 climb_links first X = map (tree_of first) X
 
 module _ {C : Type 0} {k : Ops C} (laws : Laws k) (v : View C) (sound : SoundView k v) {root : ℕ} {first : State C} (fl : RunLaws k (first_job v) root first) where
-  climb_branch : (w a x : ℕ) (X : List ℕ) → Climb first w a X → has a first.order ≡ true → has x X ≡ true → Branch k v first x
-  climb_branch w a x X c ha h = branch laws v sound fl x (climb_reached fl w a x X c h) (climb_not_root fl w a x X c ha h)
+  -- the tree link of a site of a climb
+  climb_branch : (w a x : ℕ) (X : List ℕ) → Climb first w a X → has a first.order ≡ true → has x X ≡ true → TreeLinkOf laws sound fl x
+  climb_branch w a x X c ha h = tree_link_of laws sound fl x (climb_reached fl w a x X c h) (climb_not_root fl w a x X c ha h)
 
   -- the links of a climb lead from its upper end to its lower
   pub climb_balance : (y w a : ℕ) (X : List ℕ) → Climb first w a X → has a first.order ≡ true → hit y w + occurs y (map v.start (climb_links first X)) ≡ hit y a + occurs y (map v.end (climb_links first X))
   climb_balance y w a [] c ha = ap (λ z. hit y z + 0) (climb_none fl w a c ha)
   climb_balance y w a (x ∷ X) c ha =
       let p = climb_step fl w a x X c ha in
-      let b = branch laws v sound fl w p.2 p.1 in
+      let b = tree_link_of laws sound fl w p.2 p.1 in
       let starts : hit y (v.start (tree_of first x)) ≡ hit y (parent first.labels w) = ap (hit y) (ap (λ z. v.start (tree_of first z)) p.0 ∙ b.starts) in
       let ends : hit y (v.end (tree_of first x)) ≡ hit y w = ap (hit y) (ap (λ z. v.end (tree_of first z)) p.0 ∙ b.ends) in
       omega (arith, climb_balance y (parent first.labels w) a X p.3 ha)
@@ -156,7 +135,6 @@ module _ {C : Type 0} {k : Ops C} (laws : Laws k) (v : View C) (sound : SoundVie
   climb_free w a [] c ha = refl
   climb_free w a (x ∷ X) c ha =
       let p = climb_step fl w a x X c ha in
-      let b = branch laws v sound fl w p.2 p.1 in
-      ap (λ z. k.plus z (total k (reduced k v first) (climb_links first X))) (ap (λ z. reduced k v first (tree_of first z)) p.0 ∙ b.free)
+      ap (λ z. k.plus z (total k (reduced k v first) (climb_links first X))) (ap (λ z. reduced k v first (tree_of first z)) p.0 ∙ tree_reduced laws sound fl w p.2 p.1)
       ∙ ap (k.plus k.zero) (climb_free (parent first.labels w) a X p.3 ha)
       ∙ laws.zero_plus k.zero

@@ -1,6 +1,6 @@
 -- The cutting link: a reached site without a second label is cut off by the tree link of its last piece's top.
 use Rattle.std.proofs.Common.{◌≡◌, ℕ, ◌≤◌, true, false, List, [], ◌∷◌, ◌++◌, Some, None, Option, sym, refl, ap, ◌∙◌, subst, inl, inr, arith}
-use Rattle.std.proofs.lemmas.Bool.{both_ways, cases_Bool, cases_eq, cond-true, cond-false}
+use Rattle.std.proofs.lemmas.Bool.{both_ways, cases_Bool, cases_eq, cond-false, false_from_ne_true}
 use Rattle.costs.specs.Costs.{Ops, Laws}
 use Rattle.costs.specs.Counting.{occurs}
 use Rattle.least_pairs.specs.Views.{View, without}
@@ -12,8 +12,10 @@ use Rattle.least_pairs.specs.Laws.{RunLaws}
 use Rattle.least_pairs.specs.Rightness.{Says}
 use Rattle.least_pairs.proofs.Sight.{SoundView}
 use Rattle.least_pairs.proofs.Listed.{has_head, has_tail, has_cases, has_append, has_parts, has_occurs, occurs_has, lacks_occurs, occurs_lacks, occurs_append}
-use Rattle.least_pairs.proofs.Tree.{root_reached, moment_has, up_reached}
-use Rattle.least_pairs.proofs.Pieces.{some_none, some_same, top_of, joined_sym, joined_trans, joined_free, joined_parent, joined_top, top_joined, top_some, top_self, top_above, top_parent, top_free, top_reached}
+use Rattle.least_pairs.proofs.Moments.{moment_has}
+use Rattle.least_pairs.proofs.Tree.{root_reached, up_reached}
+use Rattle.least_pairs.proofs.Options.{some_none, some_same}
+use Rattle.least_pairs.proofs.Pieces.{top_of, joined_sym, joined_trans, joined_free, joined_parent, joined_top, top_joined, top_some, top_self, top_above, top_parent, top_free, top_reached}
 use Rattle.least_pairs.proofs.Distances.{link_reaches, tree_link_of, tree_link_true}
 use Rattle.least_pairs.proofs.Walks.{walk_append, walk_parts, walk_reaches}
 use Rattle.least_pairs.proofs.TreeRoutes.{tree_route_walk, tree_route_has, tree_route_once}
@@ -23,15 +25,11 @@ use Rattle.least_pairs.proofs.Detours.{walk_route, walk_without, walk_with, soun
 module _ {C : Type 0} {k : Ops C} {v : View C} {root : ℕ} {first : State C} (laws : Laws k) (sound : SoundView k v) (tree : RunLaws k (first_job v) root first) where
   -- no route leads to a site that is not reached
   pub not_reached : (t : ℕ) → first.labels t ≡ None → NoRoute v root t
-  not_reached t h es r =
-      let l = tree.has_label t (walk_reaches laws sound tree es root t r.leads (root_reached tree)) in
-      some_none l.1 h
+  not_reached t h es r = grind (arith, walk_reaches laws sound tree, root_reached tree, some_none)
 
   -- a route leads to every reached site but the root
   pub reached_route : (t : ℕ) → has t first.order ≡ true → (t ≡ root → ⊥) → (es : List ℕ) × Route v root t es
-  reached_route t h n =
-      let r = walk_route v (tree_route first (up first t)) root t (λ e. n (sym e)) (tree_route_walk laws sound tree t h) in
-      (r.0, r.1)
+  reached_route t h n = grind (arith, walk_route v, tree_route_walk laws sound tree)
 
 module _ {C : Type 0} {k : Ops C} {v : View C} {root : ℕ} {first second : State C} (laws : Laws k) (sound : SoundView k v) (tree : RunLaws k (first_job v) root first) (run : RunLaws k (second_job k v root first) root second) where
   module _ (t z : ℕ) (last : top_of first second.order t ≡ Some z) where
@@ -58,20 +56,10 @@ module _ {C : Type 0} {k : Ops C} {v : View C} {root : ℕ} {first second : Stat
               elim (cases_Bool (has (parent first.labels b) K)) [
                 | inl s ↦ c.2 ∙ ap (λ w. link_of (first.labels w)) (some_same (top_self tree K b c.0 c.1 free s) p.1 ∙ some_same p.2 last)
                 | inr f ↦
-                    absurd (both_ways (joined (up first) K a t) out
-                    (subst (λ w. joined (up first) K w t ≡ true) (sym starts)
-                    (joined_trans tree K (parent first.labels b) b t (joined_sym tree K b (parent first.labels b) (joined_parent tree K b c.0 c.1 free f)) into)))
+                    grind (arith, joined_trans tree, joined_sym tree, joined_parent tree)
               ]
           | inr nt ↦
-              let apart : joined (up first) K a b ≡ false =
-              elim (cases_Bool (joined (up first) K a b)) [
-                | inl j ↦ absurd (both_ways (joined (up first) K a t) out (joined_trans tree K a b t j into))
-                | inr f ↦ f
-              ] in
-              let p = parted laws sound tree run a b r (link_reaches laws sound tree e h r) apart in
-              let free : has b K ≡ false = joined_free tree K b t into in
-              let o = parting_offers laws sound tree run e p.0 p.1 h nt p.2 (λ q. both_ways (has b K) free (subst (λ w. has w K ≡ true) (sym q) (moment_has p.2.moment))) in
-              absurd (both_ways (has b K) free (run.is_settled b o.0 o.1))
+              grind (arith, false_from_ne_true, joined_trans tree, parted laws sound tree run, link_reaches laws sound tree, joined_free tree, parting_offers laws sound tree run, moment_has, run.is_settled)
         ]
 
     -- the target is joined to itself
@@ -91,14 +79,7 @@ module _ {C : Type 0} {k : Ops C} {v : View C} {root : ℕ} {first second : Stat
 
     -- every walk from the root to the target uses the cutting link
     pub root_walk_cut : (es : List ℕ) → Walk v root es t → has cut es ≡ true
-    root_walk_cut es w = walk_cut es root (root_reached tree) apart w
-      where
-        apart : joined (up first) second.order root t ≡ false
-        apart =
-            elim (cases_Bool (joined (up first) second.order root t)) [
-              | inl j ↦ absurd (both_ways (has root second.order) (joined_free tree second.order root t j) (root_reached run))
-              | inr f ↦ f
-            ]
+    root_walk_cut es w = grind (arith, walk_cut, root_reached tree, false_from_ne_true, joined_free tree, root_reached run)
 
     -- so every route does
     pub cut_shared : Shared v root t cut
@@ -112,9 +93,7 @@ labelled_true (Some l) h = (l, refl)
 -- the search passes the links without which the target is within reach and ends at the first without which it is not
 first_cut_in : {C : Type 0} (k : Ops C) (v : View C) (root t e : ℕ) (front back : List ℕ) → ((f : ℕ) → has f front ≡ true → labelled ((first_run k (without f v) root).labels t) ≡ true) → labelled ((first_run k (without e v) root).labels t) ≡ false → first_cut k v root t (front ++ e ∷ back) ≡ e
 first_cut_in k v root t e [] back pass stop = cond-false (labelled ((first_run k (without e v) root).labels t)) (first_cut k v root t back) e stop
-first_cut_in k v root t e (f ∷ front) back pass stop =
-    cond-true (labelled ((first_run k (without f v) root).labels t)) (first_cut k v root t (front ++ e ∷ back)) f (pass f (has_head f front))
-    ∙ first_cut_in k v root t e front back (λ g h. pass g (has_tail g f front h)) stop
+first_cut_in k v root t e (f ∷ front) back pass stop = grind (arith, has_head, has_tail, first_cut_in k v root t e front back (λ g h. pass g (has_tail g f front h)) stop)
 
 module _ {C : Type 0} {k : Ops C} {v : View C} {root : ℕ} {first second : State C} (laws : Laws k) (sound : SoundView k v) (tree : RunLaws k (first_job v) root first) (run : RunLaws k (second_job k v root first) root second)
     (pairs : (w : ℕ) (l : Label C) → second.labels w ≡ Some l → (w ≡ root → ⊥) → (one two : List ℕ) × Pair v root w one two) (t z : ℕ) (last : top_of first second.order t ≡ Some z) where
@@ -181,14 +160,10 @@ module _ {C : Type 0} {k : Ops C} {v : View C} {root : ℕ} {first second : Stat
     cut_not_labelled =
         let c = link_of (first.labels z) in
         let s = first_run k (without c v) root in
-        elim (cases_Bool (labelled (s.labels t))) [
-          | inl q ↦
-              let l = labelled_true (s.labels t) q in
-              let r : has t s.order ≡ true = (outs c).is_settled t l.0 l.1 in
-              let w = walk_with v c (tree_route s (up s t)) root t (tree_route_walk laws (sound_without sound c) (outs c) t r) in
-              absurd (both_ways (has c (tree_route s (up s t))) w.1 (root_walk_cut laws sound tree run t z last (tree_route s (up s t)) w.0))
-          | inr q ↦ q
-        ]
+        false_from_ne_true (labelled (s.labels t)) (λ q. let l = labelled_true (s.labels t) q in
+        let r : has t s.order ≡ true = (outs c).is_settled t l.0 l.1 in
+        let w = walk_with v c (tree_route s (up s t)) root t (tree_route_walk laws (sound_without sound c) (outs c) t r) in
+        both_ways (has c (tree_route s (up s t))) w.1 (root_walk_cut laws sound tree run t z last (tree_route s (up s t)) w.0))
 
     -- the search along the tree route ends at the cutting link
     pub first_cut_is : first_cut k v root t (tree_route first (up first t)) ≡ link_of (first.labels z)
@@ -205,20 +180,12 @@ module _ {C : Type 0} {k : Ops C} {v : View C} {root : ℕ} {first second : Stat
 
     -- what the search finds is right
     pub says_cut : Says k v root t (one_link (first_cut k v root t (tree_route first (up first t))))
-    says_cut = (
-      reached_route laws sound tree t (top_reached tree second.order t z last) (λ e. target_not_root (sym e)),
-      subst (λ e. FirstShared v root t e) (sym first_cut_is) cut_first_shared,
-    )
+    says_cut = grind (arith, reached_route laws sound tree, top_reached tree, target_not_root, first_cut_is, cut_first_shared)
 
 module _ {C : Type 0} {k : Ops C} {v : View C} {root : ℕ} {first second : State C} (laws : Laws k) (sound : SoundView k v) (tree : RunLaws k (first_job v) root first) (run : RunLaws k (second_job k v root first) root second) where
   -- a reached site without a second label has a last piece with a top
   pub last_top : (t : ℕ) (d : Label C) → first.labels t ≡ Some d → second.labels t ≡ None → (z : ℕ) × (top_of first second.order t ≡ Some z)
-  last_top t d hd hn =
-      top_some tree second.order t (tree.is_settled t d hd)
-      (elim (cases_Bool (has t second.order)) [
-        | inl q ↦ absurd (some_none (run.has_label t q).1 hn)
-        | inr q ↦ q
-      ])
+  last_top t d hd hn = grind (arith, top_some tree, false_from_ne_true, some_none)
 
   -- the answer for a reached site without a second label is right
   pub says_one_link : (pairs : (w : ℕ) (l : Label C) → second.labels w ≡ Some l → (w ≡ root → ⊥) → (one two : List ℕ) × Pair v root w one two) (outs : (e : ℕ) → RunLaws k (first_job (without e v)) root (first_run k (without e v) root)) (t : ℕ) (d : Label C) → first.labels t ≡ Some d → second.labels t ≡ None → Says k v root t (one_link (first_cut k v root t (tree_route first (up first t))))

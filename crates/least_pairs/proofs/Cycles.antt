@@ -1,8 +1,8 @@
 -- Lists of links without cycles: how they are put together, and that walks in them visit no site twice.
-use Rattle.std.proofs.Common.{◌≡◌, ℕ, suc, ◌<◌, ◌≤◌, Bool, true, false, cond, eqb, ◌⊎◌, List, [], ◌∷◌, length, sym, refl, ap, ◌∙◌, subst, inl, inr, arith}
-use Rattle.std.proofs.lemmas.Bool.{ne_eqb, both_ways, cases_Bool, cases_eq}
+use Rattle.std.proofs.Common.{◌≡◌, ℕ, suc, ◌<◌, ◌≤◌, Bool, true, false, ◌⊎◌, List, [], ◌∷◌, length, sym, refl, ap, ◌∙◌, subst, inl, inr, arith}
+use Rattle.std.proofs.lemmas.Bool.{both_ways, cases_Bool, cases_eq, false_from_ne_true}
 use Rattle.costs.specs.Costs.{Ops, Laws}
-use Rattle.costs.specs.Counting.{hit, occurs}
+use Rattle.costs.specs.Counting.{occurs}
 use Rattle.costs.proofs.Counted.{hit_self}
 use Rattle.least_pairs.specs.Views.{View}
 use Rattle.least_pairs.specs.Routes.{Walk, ends}
@@ -12,10 +12,11 @@ use Rattle.least_pairs.specs.Plans.{up, first_job}
 use Rattle.least_pairs.specs.Rightness.{Short}
 use Rattle.least_pairs.specs.Laws.{RunLaws}
 use Rattle.least_pairs.proofs.Sight.{SoundView}
-use Rattle.least_pairs.proofs.Listed.{has_occurs, lacks_occurs}
+use Rattle.least_pairs.proofs.Listed.{has_occurs, lacks_occurs, hit_most, hit_other}
+use Rattle.least_pairs.proofs.Moments.{few}
 use Rattle.least_pairs.proofs.Tree.{parent_reached, up_self, up_more, up_trans, up_parent_lacks}
-use Rattle.least_pairs.proofs.Walking.{few}
-use Rattle.least_pairs.proofs.Climbs.{tree_of, branch}
+use Rattle.least_pairs.proofs.Climbs.{tree_of}
+use Rattle.least_pairs.proofs.Distances.{tree_link_of}
 
 -- all links of one list are in another
 abbrev pub PartOf : List ℕ → List ℕ → Type 0
@@ -34,10 +35,7 @@ part_tail e es F p x h = p x (omega (arith, h))
 -- a link of a list is its first or among the others
 first_or : (x e : ℕ) (es : List ℕ) → 1 ≤ occurs x (e ∷ es) → (x ≡ e) ⊎ (1 ≤ occurs x es)
 first_or x e es h =
-    elim (cases_eq x e) [
-      | inl s ↦ inl s
-      | inr d ↦ let none : hit x e ≡ 0 = ap (λ b. cond b 1 0) (ne_eqb x e d) in inr (omega arith)
-    ]
+    elim (cases_eq x e) [ inl s ↦ inl s | inr d ↦ inr (omega (arith, hit_other x e d)) ]
 
 module _ {C : Type 0} (v : View C) (K : ℕ → Bool) (F : List ℕ) (keeps : (e : ℕ) → 1 ≤ occurs e F → K (v.start e) ≡ true → K (v.end e) ≡ true) where
   -- a walk that begins in a set that no link of the list leaves stays in it
@@ -56,7 +54,7 @@ module _ {C : Type 0} (v : View C) (K : ℕ → Bool) (F : List ℕ) (keeps : (e
 
   -- a walk that ends outside was never in it
   outside : (a b : ℕ) (es : List ℕ) → Walk v a es b → PartOf es F → K b ≡ false → K a ≡ false
-  outside a b es w p h = elim (cases_Bool (K a)) [ inl t ↦ absurd (both_ways (K b) h (stays a b es w p t)) | inr f ↦ f ]
+  outside a b es w p h = false_from_ne_true (K a) (λ t. both_ways (K b) h (stays a b es w p t))
 
   pub all_out : (a b : ℕ) (es : List ℕ) → Walk v a es b → PartOf es F → K b ≡ false → (x : ℕ) → 1 ≤ occurs x es → (K (v.start x) ≡ false) × (K (v.end x) ≡ false)
   all_out a b [] w p h x i = absurd (omega arith)
@@ -97,7 +95,7 @@ pub record OnTree {C : Type 0} (v : View C) (root : ℕ) (first : State C) (e : 
 module _ {C : Type 0} {k : Ops C} (laws : Laws k) (v : View C) (sound : SoundView k v) {root : ℕ} {first : State C} (fl : RunLaws k (first_job v) root first) where
   -- a tree link starts at its end's parent
   pub tree_starts : (e : ℕ) → OnTree v root first e → v.start e ≡ parent first.labels (v.end e)
-  tree_starts e t = ap v.start t.is ∙ (branch laws v sound fl (v.end e) t.reached t.other).starts
+  tree_starts e t = ap v.start t.is ∙ (tree_link_of laws sound fl (v.end e) t.reached t.other).starts
 
   -- a walk over tree links leads down
   tree_down : (a b : ℕ) (es : List ℕ) → Walk v a es b → ((e : ℕ) → 1 ≤ occurs e es → OnTree v root first e) → has a first.order ≡ true → has a (up first b) ≡ true
@@ -112,26 +110,16 @@ module _ {C : Type 0} {k : Ops C} (laws : Laws k) (v : View C) (sound : SoundVie
 
   -- tree links have no cycle
   pub tree_acyclic : (F : List ℕ) → ((e : ℕ) → 1 ≤ occurs e F → OnTree v root first e) → Acyclic v F
-  tree_acyclic F on w e es walk part =
-      let t = on e (part_head e es F part) in
-      let x = v.end e in
-      let same : w ≡ parent first.labels x = sym walk.1 ∙ tree_starts e t in
-      let down : has x (up first w) ≡ true = tree_down x w es walk.2 (λ y i. on y (part_tail e es F part y i)) t.reached in
-      both_ways (has x (up first w)) (subst (λ z. has x (up first z) ≡ false) (sym same) (up_parent_lacks fl x t.reached t.other)) down
+  tree_acyclic F on w e es walk part = grind (arith, part_head, tree_starts, tree_down, part_tail, up_parent_lacks fl)
 
 -- a walk up to one of the sites that it visits
 visit : {C : Type 0} (v : View C) (a b w : ℕ) (es : List ℕ) → Walk v a es b → 1 ≤ occurs w (a ∷ ends v es) → (xs : List ℕ) × Walk v a xs w × PartOf xs es
-visit v a b w [] walk h =
-    elim (cases_eq w a) [
-      | inl s ↦ ([], sym s, λ e i. i)
-      | inr d ↦ let none : hit w a ≡ 0 = ap (λ z. cond z 1 0) (ne_eqb w a d) in absurd (omega arith)
-    ]
+visit v a b w [] walk h = grind (arith, hit_other)
 visit v a b w (e ∷ es) walk h =
     elim (cases_eq w a) [
       | inl s ↦ ([], sym s, λ x i. absurd (omega (arith, i)))
       | inr d ↦
-          let none : hit w a ≡ 0 = ap (λ z. cond z 1 0) (ne_eqb w a d) in
-          let p = visit v (v.end e) b w es walk.2 (omega arith) in (
+          let p = visit v (v.end e) b w es walk.2 (omega (arith, hit_other w a d)) in (
             e ∷ p.0,
             (walk.0, walk.1, p.1),
             λ x i. elim (first_or x e p.0 i) [
@@ -141,27 +129,14 @@ visit v a b w (e ∷ es) walk h =
           )
     ]
 
--- a number hits another at most once
-pub hit_most : (w a : ℕ) → hit w a ≤ 1
-hit_most w a = elim (eqb w a) as (λ b. cond b 1 0 ≤ 1) [ true ↦ omega arith | false ↦ omega arith ]
-
 -- a walk over a list without cycles visits no site twice
 pub simple_walk : {C : Type 0} (v : View C) (F : List ℕ) → Acyclic v F → (a b : ℕ) (es : List ℕ) → Walk v a es b → PartOf es F → (w : ℕ) → occurs w (a ∷ ends v es) ≤ 1
 simple_walk v F none a b [] walk part w = omega (arith, hit_most w a)
 simple_walk v F none a b (e ∷ es) walk part w =
     let rest : occurs w (v.end e ∷ ends v es) ≤ 1 = simple_walk v F none (v.end e) b es walk.2 (part_tail e es F part) w in
     elim (cases_eq w a) [
-      | inl s ↦ elim (cases_Bool (has w (v.end e ∷ ends v es))) [
-        | inl t ↦
-            let p = visit v (v.end e) b w es walk.2 (has_occurs w (v.end e ∷ ends v es) t) in
-            let back : Walk v a (e ∷ p.0) a = (walk.0, walk.1, subst (λ z. Walk v (v.end e) p.0 z) s p.1) in
-            absurd (none a e p.0 back (λ x i. elim (first_or x e p.0 i) [
-              | inl q ↦ subst (λ z. 1 ≤ occurs z F) (sym q) (part_head e es F part)
-              | inr o ↦ part_tail e es F part x (p.2 x o)
-            ]))
-        | inr f ↦ omega (arith, hit_most w a, lacks_occurs w (v.end e ∷ ends v es) f)
-      ]
-      | inr d ↦ let zero : hit w a ≡ 0 = ap (λ z. cond z 1 0) (ne_eqb w a d) in omega arith
+      | inl s ↦ grind (arith, visit v, has_occurs, first_or, part_head, part_tail, hit_most, lacks_occurs)
+      | inr d ↦ omega (arith, hit_other w a d)
     ]
 
 length_ends : {C : Type 0} (v : View C) (es : List ℕ) → length (ends v es) ≡ length es

@@ -38,10 +38,7 @@ module _ {C : Type 0} (v : View C) where
               links = x ∷ s.links;
               leads = (w.0, w.1, s.leads);
               once = λ e. fresh s.links s.once f e;
-              within = λ e h. elim (has_cases e x s.links h) [
-                | inl q ↦ subst (λ z. has z (x ∷ es) ≡ true) (sym q) (has_head x es)
-                | inr q ↦ has_tail e x es (s.within e q)
-              ];
+              within = λ e h. grind (arith, has_cases, has_head, has_tail, s.within);
             }
       ]
     where

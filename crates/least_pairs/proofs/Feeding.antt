@@ -1,44 +1,27 @@
 -- Lists of links that balance a flow of one to a struck site and one to the top of its piece, built along the turns of the second run.
 use Rattle.std.proofs.Common.{◌≡◌, ℕ, ◌+◌, ◌≤◌, Bool, true, false, cond, eqb, ◌⊎◌, List, [], ◌∷◌, ◌++◌, map, Some, Option, sym, refl, ap, ◌∙◌, subst, inl, inr, arith}
-use mathlib.Core.List.{head-eq_of_cons-eq, tail-eq_of_cons-eq}
-use Rattle.std.proofs.lemmas.Bool.{eqb-true, cases_Bool, eq-eqb, ne_eqb, both_ways, cases_eq, cases_lt, cond-true, cond-false}
+use Rattle.std.proofs.lemmas.Bool.{eqb-true, eq-eqb, ne_eqb, both_ways, cases_eq, cases_lt, cond-false, false_from_ne_true}
 use Rattle.costs.specs.Costs.{Ops, Laws, total}
 use Rattle.costs.specs.Counting.{hit, occurs}
 use Rattle.costs.proofs.Counted.{hit_self}
 use Rattle.costs.proofs.Totals.{total_append}
 use Rattle.least_pairs.specs.Views.{View}
-use Rattle.least_pairs.specs.Runs.{Label, Job, State, has}
-use Rattle.least_pairs.specs.Trees.{turn_of, parent, joined}
+use Rattle.least_pairs.specs.Runs.{Label, State, has}
+use Rattle.least_pairs.specs.Trees.{parent, joined}
 use Rattle.least_pairs.specs.Plans.{up, first_job, link_of, tree_link, reduced, marks}
 use Rattle.least_pairs.specs.Laws.{Moment, RunLaws}
 use Rattle.least_pairs.proofs.Sight.{SoundView}
 use Rattle.least_pairs.proofs.Distances.{tree_link_told}
-use Rattle.least_pairs.proofs.Listed.{has_head, has_tail, has_cases, occurs_append, lacks_head, lacks_tail}
-use Rattle.least_pairs.proofs.Tree.{moment_lacks, up_settled, up_antisym, up_trans, up_parent_lacks}
+use Rattle.least_pairs.proofs.Listed.{has_head, has_tail, has_cases, occurs_append, hit_most, hit_other}
+use Rattle.least_pairs.proofs.Tree.{up_settled, up_antisym, up_trans, up_parent_lacks}
 use Rattle.least_pairs.proofs.Pieces.{top_of, top_joined, top_some, top_above, top_reached}
 use Rattle.least_pairs.proofs.Climbs.{tree_of, Climb, climb_links, climb_over, climb_under, climb_apart, climb_reached, climb_not_root, climb_balance, climb_once, climb_link, climb_free}
-use Rattle.least_pairs.proofs.Cycles.{Acyclic, OnTree, tree_starts, tree_acyclic, acyclic_join, all_out, hit_most}
+use Rattle.least_pairs.proofs.Cycles.{Acyclic, OnTree, tree_starts, tree_acyclic, acyclic_join, all_out}
 use Rattle.least_pairs.proofs.Parting.{Ways, ways, later_top, low_under, start_out, joined_has_top, top_inner}
-
--- two lists that are one, taken apart at a number that is in neither front, have one back
-behind : (y : ℕ) (xs ys S T : List ℕ) → xs ++ y ∷ S ≡ ys ++ y ∷ T → has y xs ≡ false → has y ys ≡ false → S ≡ T
-behind y [] [] S T e h g = tail-eq_of_cons-eq e
-behind y [] (b ∷ ys) S T e h g = absurd (lacks_head y b ys g (head-eq_of_cons-eq e))
-behind y (a ∷ xs) [] S T e h g = absurd (lacks_head y a xs h (sym (head-eq_of_cons-eq e)))
-behind y (a ∷ xs) (b ∷ ys) S T e h g = behind y xs ys S T (tail-eq_of_cons-eq e) (lacks_tail y a xs h) (lacks_tail y b ys g)
-
--- a site is settled at one moment
-pub moment_unique : {C : Type 0} {k : Ops C} {j : Job C} {root : ℕ} {s : State C} → RunLaws k j root s → (y : ℕ) (S T : List ℕ) → Moment s.order y S → Moment s.order y T → S ≡ T
-moment_unique run y S T m n =
-    behind y m.later n.later S T (sym m.whole ∙ n.whole) (moment_lacks run y S m y (has_head y S)) (moment_lacks run y T n y (has_head y T))
 
 -- two numbers at most one of which is one are at most one together
 pub exclusive : (a b : ℕ) → a ≤ 1 → b ≤ 1 → (1 ≤ a → 1 ≤ b → ⊥) → a + b ≤ 1
-exclusive a b ha hb h =
-    elim (cases_lt 0 a) [
-      | inl p ↦ elim (cases_lt 0 b) [ inl q ↦ absurd (h (omega arith) (omega arith)) | inr q ↦ omega arith ]
-      | inr p ↦ omega arith
-    ]
+exclusive a b ha hb h = grind (arith)
 
 -- one of two numbers with a sum of one or more is one or more
 pub either : (a b : ℕ) → 1 ≤ a + b → (1 ≤ a) ⊎ (1 ≤ b)
@@ -51,10 +34,7 @@ occurs_map_append f y (x ∷ xs) ys = omega (arith, occurs_map_append f y xs ys)
 
 -- the mark of a site comes before those of its turn
 marks_more : {C : Type 0} (labels : ℕ → Option (Label C)) (root : ℕ) (ys : List ℕ) (t : ℕ) (m : Label C) → labels t ≡ Some m → (t ≡ root → ⊥) → marks labels root (t ∷ ys) t ≡ t ∷ marks labels root ys m.turn
-marks_more labels root ys t m h d =
-    cond-true (eqb t t) (cond (eqb t root) [] (t ∷ marks labels root ys (parent labels t))) (marks labels root ys t) (eq-eqb t t refl)
-    ∙ cond-false (eqb t root) [] (t ∷ marks labels root ys (parent labels t)) (ne_eqb t root d)
-    ∙ ap (λ o. t ∷ marks labels root ys (turn_of o t)) h
+marks_more labels root ys t m h d = grind arith
 
 -- the marks of another site are searched for further back
 pub marks_past : {C : Type 0} (labels : ℕ → Option (Label C)) (root : ℕ) (y : ℕ) (ys : List ℕ) (w : ℕ) → (w ≡ y → ⊥) → marks labels root (y ∷ ys) w ≡ marks labels root ys w
@@ -62,9 +42,7 @@ marks_past labels root y ys w d = cond-false (eqb w y) (cond (eqb y root) [] (y 
 
 -- the root has no marks
 pub marks_root : {C : Type 0} (labels : ℕ → Option (Label C)) (root : ℕ) (ys : List ℕ) → marks labels root (root ∷ ys) root ≡ []
-marks_root labels root ys =
-    cond-true (eqb root root) (cond (eqb root root) [] (root ∷ marks labels root ys (parent labels root))) (marks labels root ys root) (eq-eqb root root refl)
-    ∙ cond-true (eqb root root) [] (root ∷ marks labels root ys (parent labels root)) (eq-eqb root root refl)
+marks_root labels root ys = grind arith
 
 -- the entry link of a marked site, no tree link
 pub record Enters {C : Type 0} (v : View C) (root : ℕ) (first second : State C) (ms : List ℕ) (e : ℕ) : Type 0 where
@@ -209,18 +187,11 @@ module _ {C : Type 0} {k : Ops C} (laws : Laws k) (v : View C) (sound : SoundVie
   entry_no_tree l = both_ways (tree_link v first root m.link) no_tree (tree_link_is laws v sound fl m.link l.is l.reached l.other)
 
   entry_old : 1 ≤ occurs m.link feed.links → ⊥
-  entry_old h =
-      elim (feed.kinds m.link h) [
-        | inl p ↦ both_ways (has t ys) new (subst (λ y. has y ys ≡ true) lands (feed.marked (v.end m.link) p.marked).2)
-        | inr p ↦ entry_no_tree p
-      ]
+  entry_old h = grind (arith, entry_no_tree)
 
   entry_new : (e : ℕ) → 1 ≤ hit e m.link → 1 ≤ occurs e one + (occurs e two + occurs e feed.links) → ⊥
   entry_new e h g =
-      let same : e ≡ m.link = elim (cases_eq e m.link) [
-        | inl s ↦ s
-        | inr d ↦ let none : hit e m.link ≡ 0 = ap (λ b. cond b 1 0) (ne_eqb e m.link d) in absurd (omega arith)
-      ] in
+      let same : e ≡ m.link = elim (cases_eq e m.link) [ inl s ↦ s | inr d ↦ absurd (omega (arith, hit_other e m.link d)) ] in
       elim (either (occurs e one) (occurs e two + occurs e feed.links) g) [
         | inl i ↦ entry_no_tree (leads_one m.link (subst (λ y. 1 ≤ occurs y one) same i))
         | inr o ↦ elim (either (occurs e two) (occurs e feed.links) o) [
@@ -243,16 +214,7 @@ module _ {C : Type 0} {k : Ops C} (laws : Laws k) (v : View C) (sound : SoundVie
 
   -- what holds of the entry link, of the links of the climbs and of those before holds of all
   in_parts : (P : Type 0) (e : ℕ) → 1 ≤ occurs e all → (e ≡ m.link → P) → (1 ≤ occurs e one → P) → (1 ≤ occurs e two → P) → (1 ≤ occurs e feed.links → P) → P
-  in_parts P e h a b c d =
-      elim (cases_eq e m.link) [
-        | inl s ↦ a s
-        | inr n ↦
-            let none : hit e m.link ≡ 0 = ap (λ z. cond z 1 0) (ne_eqb e m.link n) in
-            elim (either (occurs e one) (occurs e two + occurs e feed.links) (omega (arith, parts e))) [
-              | inl i ↦ b i
-              | inr o ↦ elim (either (occurs e two) (occurs e feed.links) o) [ inl i ↦ c i | inr i ↦ d i ]
-            ]
-      ]
+  in_parts P e h a b c d = grind (arith, either, hit_other, parts)
 
   -- the marks are those of the turn, and the site
   marks_are : marks second.labels root (t ∷ ys) t ≡ t ∷ marks second.labels root ys m.turn
@@ -352,13 +314,7 @@ module _ {C : Type 0} {k : Ops C} (laws : Laws k) (v : View C) (sound : SoundVie
   new_links = m.link ∷ (one ++ two)
 
   in_new : (P : Type 0) (e : ℕ) → 1 ≤ occurs e new_links → (e ≡ m.link → P) → (1 ≤ occurs e one → P) → (1 ≤ occurs e two → P) → P
-  in_new P e h a b c =
-      elim (cases_eq e m.link) [
-        | inl s ↦ a s
-        | inr n ↦
-            let none : hit e m.link ≡ 0 = ap (λ z. cond z 1 0) (ne_eqb e m.link n) in
-            elim (either (occurs e one) (occurs e two) (omega (arith, occurs_append e one two))) [ inl i ↦ b i | inr i ↦ c i ]
-      ]
+  in_new P e h a b c = grind (arith, either, hit_other, occurs_append)
 
   new_or_old : (e : ℕ) → 1 ≤ occurs e all → (1 ≤ occurs e new_links) ⊎ (1 ≤ occurs e feed.links)
   new_or_old e h = either (occurs e new_links) (occurs e feed.links) (omega (arith, parts e, occurs_append e one two))
@@ -389,10 +345,7 @@ module _ {C : Type 0} {k : Ops C} (laws : Laws k) (v : View C) (sound : SoundVie
 
   old_out : (e : ℕ) → 1 ≤ occurs e feed.links → in_piece (v.start e) ≡ false
   old_out e i =
-      elim (cases_Bool (in_piece (v.start e))) [
-        | inl h ↦ absurd (feed.leaves e i (joined_has_top fl feed.before m.turn (v.start e) feed.z feed.is_top h))
-        | inr f ↦ f
-      ]
+      false_from_ne_true (in_piece (v.start e)) (λ h. feed.leaves e i (joined_has_top fl feed.before m.turn (v.start e) feed.z feed.is_top h))
 
   -- no link starts at the site itself
   none_starts : (e : ℕ) → 1 ≤ occurs e new_links → eqb (v.start e) t ≡ true → ⊥
@@ -403,10 +356,7 @@ module _ {C : Type 0} {k : Ops C} (laws : Laws k) (v : View C) (sound : SoundVie
   new_acyclic : Acyclic v new_links
   new_acyclic w e es walk part =
       let first_there : 1 ≤ occurs e new_links = part e (omega (arith, hit_self e)) in
-      let away : eqb w t ≡ false = elim (cases_Bool (eqb w t)) [
-        | inl s ↦ absurd (none_starts e first_there (subst (λ y. eqb y t ≡ true) (sym walk.1) s))
-        | inr f ↦ f
-      ] in
+      let away : eqb w t ≡ false = false_from_ne_true (eqb w t) (λ s. none_starts e first_there (subst (λ y. eqb y t ≡ true) (sym walk.1) s)) in
       tree_acyclic laws v sound fl (one ++ two)
       (λ x i. elim (either (occurs x one) (occurs x two) (omega (arith, i, occurs_append x one two))) [ inl o ↦ on_tree (leads_one x o) | inr o ↦ on_tree (leads_two x o) ])
       w e es walk
@@ -439,15 +389,7 @@ module _ {C : Type 0} {k : Ops C} (laws : Laws k) (v : View C) (sound : SoundVie
         (λ i. inr (leads_two e i))
         (λ i. elim (feed.kinds e i) [ inl p ↦ inl (enters_old e p) | inr p ↦ inr (leads_old e p) ]);
     marked = λ x h.
-        elim (has_cases x t (marks second.labels root ys m.turn) (sym (ap (has x) marks_are) ∙ h)) [
-          | inl s ↦
-              let link_is : link_of (second.labels x) ≡ m.link = ap (λ w. link_of (second.labels w)) s ∙ entry_is in
-              let there : 1 ≤ occurs m.link all = omega (arith, hit_self m.link) in
-              (subst (λ y. 1 ≤ occurs y all) (sym link_is) there, ap v.end link_is ∙ lands ∙ sym s, subst (λ y. has y (t ∷ ys) ≡ true) (sym s) (has_head t ys))
-          | inr i ↦
-              let p = feed.marked x i in
-              (omega (arith, p.0, parts (link_of (second.labels x))), p.1, has_tail x t ys p.2)
-        ];
+        grind (arith, has_cases, marks_are, entry_is, hit_self, has_head, parts, has_tail, feed.marked);
     usable = λ e h.
         in_parts (v.usable e ≡ true) e h
         (λ s. subst (λ y. v.usable y ≡ true) (sym s) usable)

@@ -1,11 +1,13 @@
 -- A run from its beginning to its end: what it leaves.
-use Rattle.std.proofs.Common.{◌≡◌, ℕ, zero, suc, ◌<◌, true, false, cond, ◌⊎◌, List, [], ◌∷◌, length, Some, None, Option, sym, refl, ap, subst, inl, inr, arith}
-use Rattle.std.proofs.lemmas.Bool.{both_ways, eq-eqb, ne_eqb, cases_Bool, cases_eq}
+use Rattle.std.proofs.Common.{◌≡◌, ℕ, zero, suc, ◌<◌, true, false, eqb, ◌⊎◌, List, [], ◌∷◌, length, Some, None, Option, sym, refl, ap, subst, inl, inr, arith}
+use Rattle.std.proofs.lemmas.Bool.{both_ways, eq-eqb, ne_eqb, cases_eq, cond-true, cond-false, true_from_ne_false}
 use Rattle.costs.specs.Costs.{Ops, Laws}
 use Rattle.costs.proofs.Order.{le_same}
 use Rattle.least_pairs.specs.Runs.{Label, Job, State, has, settled, run, begun, least, outcome}
 use Rattle.least_pairs.specs.Laws.{Moment, RunLaws}
-use Rattle.least_pairs.proofs.Moments.{occurs_has, moment_has, few}
+use Rattle.least_pairs.proofs.Options.{some_none, some_same}
+use Rattle.least_pairs.proofs.Listed.{occurs_has}
+use Rattle.least_pairs.proofs.Moments.{moment_has, few}
 use Rattle.least_pairs.proofs.Choosing.{Spent, Choice, chooses}
 use Rattle.least_pairs.proofs.Running.{SoundJob, Running, one_settled}
 
@@ -19,18 +21,15 @@ module _ {C : Type 0} {k : Ops C} (laws : Laws k) (j : Job C) (root : ℕ) (soun
   only_root w l is =
       elim (cases_eq w root) [
         | inl q ↦
-            let here : (begun k root).labels w ≡ Some (record { cost = k.zero; link = 0; turn = root }) = ap (λ b. cond b (Some (record { cost = k.zero; link = 0; turn = root })) None) (eq-eqb w root q) in
-            (q, cc)
+            (q, some_same is (cond-true (eqb w root) (Some (record { cost = k.zero; link = 0; turn = root })) None (eq-eqb w root q)))
         | inr q ↦
-            let none : (begun k root).labels w ≡ None = ap (λ b. cond b (Some (record { cost = k.zero; link = 0; turn = root })) None) (ne_eqb w root q) in
-            let z : ◌≡◌ {A = ℕ} 0 1 = cc in
-            absurd (omega arith)
+            absurd (some_none is (cond-false (eqb w root) (Some (record { cost = k.zero; link = 0; turn = root })) None (ne_eqb w root q)))
       ]
 
   -- what holds of every run holds at the beginning
   beginning : Running k j root (begun k root)
   beginning = record {
-    root_label = ap (λ b. cond b (Some (record { cost = k.zero; link = 0; turn = root })) None) (eq-eqb root root refl);
+    root_label = cond-true (eqb root root) (Some (record { cost = k.zero; link = 0; turn = root })) None (eq-eqb root root refl);
     began = inl (refl, λ w l is. (only_root w l is).0);
     once = λ w. omega arith;
     labelled = λ w l is. subst (λ x. x < j.sites) (sym (only_root w l is).0) sound.begins;
@@ -91,7 +90,7 @@ module _ {C : Type 0} {k : Ops C} (laws : Laws k) (j : Job C) (root : ℕ) (soun
   finished : (s : State C) → Running k j root s → Spent s j.sites → RunLaws k j root s
   finished s r spent =
       let settled_all : (w : ℕ) (l : Label C) → s.labels w ≡ Some l → has w s.order ≡ true = λ w l is.
-      elim (cases_Bool (has w s.order)) [ inl h ↦ h | inr h ↦ absurd (spent w (r.labelled w l is) h l is) ] in
+      true_from_ne_false (has w s.order) (λ h. spent w (r.labelled w l is) h l is) in
       record {
         root_label = r.root_label;
         root_first =

@@ -1,27 +1,24 @@
 -- The sums of a planning fit: distances, reduced costs, labels and totals.
-use Rattle.std.proofs.Common.{◌≡◌, ℕ, suc, ◌+◌, ◌*◌, ◌<◌, ◌≤◌, true, false, cond, not, ◌&&◌, ◌||◌, eqb, List, ◌∷◌, length, Some, None, sym, refl, ap, ◌∙◌, subst, arith, length-append}
-use Rattle.std.proofs.lemmas.Bool.{and_parts, not-true, eqb-true, eqb-false}
-use Rattle.costs.specs.Costs.{Ops, Laws, limit}
-use Rattle.costs.specs.Counting.{hit, occurs}
+use Rattle.std.proofs.Common.{◌≡◌, ℕ, suc, ◌+◌, ◌*◌, ◌<◌, ◌≤◌, true, false, eqb, List, ◌∷◌, length, Some, sym, ap, ◌∙◌, subst, inl, inr, arith, length-append}
+use Rattle.std.proofs.lemmas.Bool.{and_parts, cases_eq}
+use Rattle.costs.specs.Costs.{Ops, Laws}
+use Rattle.costs.specs.Counting.{occurs}
 use Rattle.costs.proofs.Working.{worked_exact, negated_exact}
 use Rattle.least_pairs.specs.Views.{View}
 use Rattle.least_pairs.specs.Runs.{Label, Job, State, has}
-use Rattle.least_pairs.specs.Trees.{joined}
 use Rattle.least_pairs.specs.Laws.{Moment, Considered, RunLaws}
-use Rattle.least_pairs.specs.Plans.{first_job, second_job, reduced, cost_of, tree_link, up}
+use Rattle.least_pairs.specs.Plans.{first_job, second_job, reduced, cost_of}
 use Rattle.least_pairs.specs.Sizing.{largest, ExactSum, SumsFit}
 use Rattle.least_pairs.proofs.Sight.{SoundView}
-use Rattle.least_pairs.proofs.Listed.{lacks_occurs, lacks_more, occurs_append, occurs_has, moment_of}
+use Rattle.least_pairs.proofs.Listed.{hit_most, hit_other, lacks_occurs, lacks_more, occurs_append, occurs_has, moment_of}
 use Rattle.least_pairs.proofs.Moments.{few}
 use Rattle.least_pairs.proofs.Pieces.{joined_free, joined_sym}
 use Rattle.least_pairs.proofs.Sizes.{label_size}
+use Rattle.least_pairs.proofs.Second.{Crosses, second_considered}
 
 -- within the largest size twice over a sum is exact
 exact : {C : Type 0} {k : Ops C} (laws : Laws k) (x y : C) (a b : ℕ) → k.size x ≤ a → k.size y ≤ b → a + b ≤ largest → ExactSum k x y
-exact {k = k} laws x y a b hx hy hab =
-    let sum = laws.size_plus x y in
-    let low : k.size x + k.size y ≤ limit = omega arith in
-    (omega arith, worked_exact k x y low)
+exact {k = k} laws x y a b hx hy hab = grind (arith, worked_exact)
 
 -- the sites settled before a moment are fewer than the sites
 few_before : {C : Type 0} {k : Ops C} {j : Job C} {root : ℕ} {s : State C} → RunLaws k j root s → (y : ℕ) (S : List ℕ) → Moment s.order y S → length S + 1 ≤ j.sites
@@ -45,64 +42,38 @@ module _ {C : Type 0} {k : Ops C} (laws : Laws k) {v : View C} (sight : SoundVie
 
   -- so is that of a site without one, which is zero
   cost_size_of : (w : ℕ) → k.size (cost_of k (first.labels w)) ≤ 255000000
-  cost_size_of w =
-      (elim (first.labels w) as (λ o. first.labels w ≡ o → k.size (cost_of k o) ≤ 255000000) [
-        | None ↦ λ e. omega (arith, laws.size_zero)
-        | Some l ↦ λ e. distance_size w l e
-      ]) refl
+  cost_size_of w = grind (arith, distance_size)
 
   -- a reduced cost is a cost and two distances
   reduced_size : (e : ℕ) → v.usable e ≡ true → k.size (reduced k v first e) ≤ 511000000
-  reduced_size e u =
-      let d = cost_of k (first.labels (v.start e)) in
-      let f = cost_of k (first.labels (v.end e)) in
-      omega (arith, small e u, cost_size_of (v.start e), cost_size_of (v.end e), laws.size_negation f, laws.size_plus (v.cost e) d, laws.size_plus (k.plus (v.cost e) d) (k.negation f))
+  reduced_size e u = grind (arith, cost_size_of)
 
-  -- what y considers is usable, and ends at a site that is neither y nor struck
-  record Ahead (y : ℕ) (S : List ℕ) (e : ℕ) : Type 0 where
-    usable : v.usable e ≡ true
-    other : v.end e ≡ y → ⊥
-    free : has (v.end e) S ≡ false
+  -- what y considers crosses its piece
+  crosses : (y : ℕ) (S : List ℕ) (e : ℕ) → Considered (second_job k v root first) second.order y S e → Crosses v root first y S e
+  crosses y S e c = second_considered k v root first y S e c.considers
 
-  ahead : (y : ℕ) (S : List ℕ) (e : ℕ) → Considered (second_job k v root first) second.order y S e → Ahead y S e
-  ahead y S e c =
-      let a = and_parts (v.usable e && not (tree_link v first root e)) ((joined (up first) S y (v.start e) && joined (up first) S y (v.end e)) && (not (eqb (v.end e) y) && (eqb (v.start e) y || not (joined (up first) (y ∷ S) (v.start e) (v.end e))))) c.considers in
-      let b = and_parts (joined (up first) S y (v.start e) && joined (up first) S y (v.end e)) (not (eqb (v.end e) y) && (eqb (v.start e) y || not (joined (up first) (y ∷ S) (v.start e) (v.end e)))) a.1 in
-      let d = and_parts (joined (up first) S y (v.start e)) (joined (up first) S y (v.end e)) b.0 in
-      let f = and_parts (not (eqb (v.end e) y)) (eqb (v.start e) y || not (joined (up first) (y ∷ S) (v.start e) (v.end e))) b.1 in
-      record {
-        usable = (and_parts (v.usable e) (not (tree_link v first root e)) a.0).0;
-        other = eqb-false (v.end e) y (not-true (eqb (v.end e) y) f.0);
-        free = joined_free fl S (v.end e) y (joined_sym fl S y (v.end e) d.1);
-      }
-
-  -- so not all sites are struck then
+  -- not all sites are struck then, since its end is neither y nor struck
   some_left : (y : ℕ) (S : List ℕ) (e : ℕ) → Considered (second_job k v root first) second.order y S e → length S + 2 ≤ 256
   some_left y S e c =
-      let a = ahead y S e c in
+      let a = crosses y S e c in
       let m = c.moment in
       let x = v.end e in
-      let lacks : has x (y ∷ S) ≡ false = lacks_more x y S a.other a.free in
+      let lacks : has x (y ∷ S) ≡ false = lacks_more x y S a.other (joined_free fl S x y (joined_sym fl S y x a.end_in)) in
       let part : (w : ℕ) → occurs w (y ∷ S) ≤ occurs w second.order = λ w. omega (arith, ap (occurs w) m.whole, occurs_append w m.later (y ∷ S)) in
       let once : (w : ℕ) → occurs w (x ∷ y ∷ S) ≤ 1 = λ w.
-      (elim (eqb w x) as (λ b. eqb w x ≡ b → occurs w (x ∷ y ∷ S) ≤ 1) [
-        | true ↦ λ t. let same : w ≡ x = eqb-true w x t in
-            let none : occurs w (y ∷ S) ≡ 0 = ap (λ z. occurs z (y ∷ S)) same ∙ lacks_occurs x (y ∷ S) lacks in
-            let one : hit w x ≡ 1 = ap (λ b. cond b 1 0) t in
-            omega arith
-        | false ↦ λ t. let zero_hit : hit w x ≡ 0 = ap (λ b. cond b 1 0) t in omega (arith, part w, sl.once w)
-      ]) refl in
+      elim (cases_eq w x) [
+        | inl q ↦ omega (arith, hit_most w x, ap (λ z. occurs z (y ∷ S)) q, lacks_occurs x (y ∷ S) lacks)
+        | inr n ↦ omega (arith, hit_other w x n, part w, sl.once w)
+      ] in
       let inside : (w : ℕ) → 1 ≤ occurs w (x ∷ y ∷ S) → w < v.sites = λ w h.
-      (elim (eqb w x) as (λ b. eqb w x ≡ b → w < v.sites) [
-        | true ↦ λ t. subst (λ z. z < v.sites) (sym (eqb-true w x t)) (sight.end e a.usable)
-        | false ↦ λ t. let zero_hit : hit w x ≡ 0 = ap (λ b. cond b 1 0) t in
-            let there : 1 ≤ occurs w second.order = omega (arith, part w) in
-            sl.sites w (occurs_has w second.order there)
-      ]) refl in
+      elim (cases_eq w x) [
+        | inl q ↦ subst (λ z. z < v.sites) (sym q) (sight.end e a.usable)
+        | inr n ↦ sl.sites w (occurs_has w second.order (omega (arith, hit_other w x n, part w)))
+      ] in
       omega (arith, few v.sites (x ∷ y ∷ S) once inside)
 
   adds_size : (y : ℕ) (S : List ℕ) (e : ℕ) → Considered (second_job k v root first) second.order y S e → k.size (reduced k v first e) ≤ 511000000
-  adds_size y S e c = reduced_size e (ahead y S e c).usable
+  adds_size y S e c = reduced_size e (crosses y S e c).usable
 
   -- a label is a sum of reduced costs, one for each site struck before at most
   second_size : (w : ℕ) (T : List ℕ) (l : Label C) → Moment second.order w T → second.labels w ≡ Some l → k.size l.cost ≤ length T * 511000000
@@ -123,9 +94,7 @@ module _ {C : Type 0} {k : Ops C} (laws : Laws k) {v : View C} (sight : SoundVie
     start_side = λ e u. exact laws (v.cost e) (cost_of k (first.labels (v.start e))) 1000000 255000000 (small e u) (cost_size_of (v.start e)) (omega arith);
     end_side = λ e. negated_exact k (cost_of k (first.labels (v.end e))) (omega (arith, cost_size_of (v.end e)));
     reduced_cost = λ e u.
-        let d = cost_of k (first.labels (v.start e)) in
-        let f = cost_of k (first.labels (v.end e)) in
-        exact laws (k.plus (v.cost e) d) (k.negation f) 256000000 255000000 (omega (arith, small e u, cost_size_of (v.start e), laws.size_plus (v.cost e) d)) (omega (arith, laws.size_negation f, cost_size_of (v.end e))) (omega arith);
+        grind (arith, exact laws, cost_size_of, laws.size_plus, laws.size_negation);
     offered_label = λ y S e l c h.
         let left = some_left y S e c in
         exact laws l.cost (reduced k v first e) 129794000000 511000000 (omega (arith, second_size y S l c.moment h)) (adds_size y S e c) (omega arith);

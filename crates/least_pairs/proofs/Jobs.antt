@@ -1,15 +1,15 @@
 -- Both runs of a planning are sound jobs, so both keep the laws of a finished run.
-use Rattle.std.proofs.Common.{◌≡◌, ℕ, ◌<◌, true, not, ◌&&◌, ◌||◌, eqb, List, ◌∷◌}
+use Rattle.std.proofs.Common.{ℕ, ◌<◌, eqb}
 use Rattle.std.proofs.lemmas.Bool.{and_parts}
 use Rattle.costs.specs.Costs.{Ops, Laws}
 use Rattle.least_pairs.specs.Views.{View}
-use Rattle.least_pairs.specs.Runs.{State, has}
-use Rattle.least_pairs.specs.Trees.{joined}
+use Rattle.least_pairs.specs.Runs.{State}
 use Rattle.least_pairs.specs.Laws.{RunLaws, Same}
-use Rattle.least_pairs.specs.Plans.{first_job, second_job, first_run, second_run, tree_link, up}
+use Rattle.least_pairs.specs.Plans.{first_job, second_job, first_run, second_run}
 use Rattle.least_pairs.proofs.Sight.{SoundView}
 use Rattle.least_pairs.proofs.Distances.{reduced_least}
 use Rattle.least_pairs.proofs.Pieces.{joined_reached, joined_sym}
+use Rattle.least_pairs.proofs.Second.{second_considered}
 use Rattle.least_pairs.proofs.Running.{SoundJob}
 use Rattle.least_pairs.proofs.Finishing.{run_laws}
 use Rattle.least_pairs.proofs.Unique.{laws_determine}
@@ -32,21 +32,11 @@ module _ {C : Type 0} {k : Ops C} (laws : Laws k) (v : View C) (sight : SoundVie
   pub second_sound : (first : State C) → RunLaws k (first_job v) root first → SoundJob k (second_job k v root first) root
   second_sound first fl = record {
     begins = inside;
-    ends = λ y S e lt c. sight.end e (usable y S e c);
-    adds = λ y S e lt c. reduced_least laws sight fl e (usable y S e c) (starts y S e c);
+    ends = λ y S e lt c. sight.end e (second_considered k v root first y S e c).usable;
+    adds = λ y S e lt c.
+        let x = second_considered k v root first y S e c in
+        reduced_least laws sight fl e x.usable (joined_reached fl S (v.start e) y (joined_sym fl S y (v.start e) x.start_in));
   }
-    where
-      parts : (y : ℕ) (S : List ℕ) (e : ℕ) → (second_job k v root first).considers y S e ≡ true → ((v.usable e && not (tree_link v first root e)) ≡ true) × (((joined (up first) S y (v.start e) && joined (up first) S y (v.end e)) && (not (eqb (v.end e) y) && (eqb (v.start e) y || not (joined (up first) (y ∷ S) (v.start e) (v.end e))))) ≡ true)
-      parts y S e c = and_parts (v.usable e && not (tree_link v first root e)) ((joined (up first) S y (v.start e) && joined (up first) S y (v.end e)) && (not (eqb (v.end e) y) && (eqb (v.start e) y || not (joined (up first) (y ∷ S) (v.start e) (v.end e))))) c
-
-      usable : (y : ℕ) (S : List ℕ) (e : ℕ) → (second_job k v root first).considers y S e ≡ true → v.usable e ≡ true
-      usable y S e c = (and_parts (v.usable e) (not (tree_link v first root e)) (parts y S e c).0).0
-
-      starts : (y : ℕ) (S : List ℕ) (e : ℕ) → (second_job k v root first).considers y S e ≡ true → has (v.start e) first.order ≡ true
-      starts y S e c =
-          let both = and_parts (joined (up first) S y (v.start e) && joined (up first) S y (v.end e)) (not (eqb (v.end e) y) && (eqb (v.start e) y || not (joined (up first) (y ∷ S) (v.start e) (v.end e)))) (parts y S e c).1 in
-          let start = (and_parts (joined (up first) S y (v.start e)) (joined (up first) S y (v.end e)) both.0).0 in
-          joined_reached fl S (v.start e) y (joined_sym fl S y (v.start e) start)
 
   -- so it keeps the laws of a finished run
   pub second_laws : (first : State C) → RunLaws k (first_job v) root first → RunLaws k (second_job k v root first) root (second_run k v root first)

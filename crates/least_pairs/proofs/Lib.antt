@@ -1,4 +1,5 @@
 -- Lemmas and proofs about plannings.
+pub mod Options
 pub mod Listed
 pub mod Moments
 pub mod Older
@@ -12,6 +13,7 @@ pub mod Unique
 pub mod Distances
 pub mod Tree
 pub mod Pieces
+pub mod Second
 pub mod Jobs
 pub mod Sizes
 pub mod Fitting

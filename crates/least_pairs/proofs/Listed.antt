@@ -1,6 +1,6 @@
 -- Membership and counting in lists of numbers.
 use Rattle.std.proofs.Common.{◌≡◌, ℕ, ◌+◌, ◌≤◌, true, false, cond, eqb, ◌⊎◌, List, [], ◌∷◌, ◌++◌, sym, refl, ap, inl, inr, arith}
-use Rattle.std.proofs.lemmas.Bool.{or_left, or_right, or_cases, or_parts, or_from, eq-eqb, ne_eqb, eqb-true, both_ways, cases_Bool}
+use Rattle.std.proofs.lemmas.Bool.{or_left, or_right, or_cases, or_parts, or_from, eq-eqb, ne_eqb, eqb-true, both_ways, false_from_ne_true, true_from_ne_false}
 use Rattle.costs.specs.Counting.{hit, occurs}
 use Rattle.least_pairs.specs.Runs.{has}
 use Rattle.least_pairs.specs.Laws.{Moment}
@@ -41,26 +41,32 @@ has_occurs w (x ∷ xs) h =
 -- what is not in a list does not occur in it
 pub lacks_occurs : (w : ℕ) (xs : List ℕ) → has w xs ≡ false → occurs w xs ≡ 0
 lacks_occurs w [] h = refl
-lacks_occurs w (x ∷ xs) h =
-    let none : hit w x ≡ 0 = ap (λ b. cond b 1 0) (or_parts (eqb w x) (has w xs) h).0 in
-    omega (arith, lacks_occurs w xs (or_parts (eqb w x) (has w xs) h).1)
+lacks_occurs w (x ∷ xs) h = grind (arith, or_parts, lacks_occurs w xs (or_parts (eqb w x) (has w xs) h).1)
 
 -- what occurs in a list is in it
 pub occurs_has : (w : ℕ) (xs : List ℕ) → 1 ≤ occurs w xs → has w xs ≡ true
-occurs_has w xs h = elim (cases_Bool (has w xs)) [ inl t ↦ t | inr f ↦ absurd (omega (arith, lacks_occurs w xs f)) ]
+occurs_has w xs h = true_from_ne_false (has w xs) (λ f. omega (arith, lacks_occurs w xs f))
 
 -- what does not occur in a list is not in it
 pub occurs_lacks : (w : ℕ) (xs : List ℕ) → occurs w xs ≡ 0 → has w xs ≡ false
-occurs_lacks w xs h = elim (cases_Bool (has w xs)) [ inl t ↦ absurd (omega (arith, has_occurs w xs t)) | inr f ↦ f ]
+occurs_lacks w xs h = false_from_ne_true (has w xs) (λ t. omega (arith, has_occurs w xs t))
 
 -- a number occurs in two lists in a row as often as in both
 pub occurs_append : (w : ℕ) (xs ys : List ℕ) → occurs w (xs ++ ys) ≡ occurs w xs + occurs w ys
 occurs_append w [] ys = omega arith
 occurs_append w (x ∷ xs) ys = omega (arith, occurs_append w xs ys)
 
+-- a number counts at most once for another
+pub hit_most : (w x : ℕ) → hit w x ≤ 1
+hit_most w x = elim (eqb w x) as (λ b. cond b 1 0 ≤ 1) [ true ↦ omega arith | false ↦ omega arith ]
+
+-- a number counts for no other
+pub hit_other : (w x : ℕ) → (w ≡ x → ⊥) → hit w x ≡ 0
+hit_other w x n = ap (λ b. cond b 1 0) (ne_eqb w x n)
+
 -- a number occurs at most once in a list of one
 pub occurs_one : (w x : ℕ) → occurs w (x ∷ []) ≤ 1
-occurs_one w x = elim (eqb w x) as (λ b. cond b 1 0 + 0 ≤ 1) [ true ↦ omega arith | false ↦ omega arith ]
+occurs_one w x = omega (arith, hit_most w x)
 
 -- what is in the second of two lists in a row is in them
 pub has_right : (w : ℕ) (xs ys : List ℕ) → has w ys ≡ true → has w (xs ++ ys) ≡ true
@@ -72,11 +78,7 @@ has_left w xs ys h = occurs_has w (xs ++ ys) (omega (arith, occurs_append w xs y
 
 -- what is in two lists in a row is in one of them
 pub has_append : (w : ℕ) (xs ys : List ℕ) → has w (xs ++ ys) ≡ true → (has w xs ≡ true) ⊎ (has w ys ≡ true)
-has_append w xs ys h =
-    elim (cases_Bool (has w xs)) [
-      | inl t ↦ inl t
-      | inr f ↦ inr (occurs_has w ys (omega (arith, occurs_append w xs ys, lacks_occurs w xs f, has_occurs w (xs ++ ys) h)))
-    ]
+has_append w xs ys h = grind (arith, occurs_has, occurs_append, lacks_occurs, has_occurs)
 
 -- a list is taken apart at what is in it
 pub has_parts : (w : ℕ) (xs : List ℕ) → has w xs ≡ true → (front : List ℕ) × (back : List ℕ) × (xs ≡ front ++ w ∷ back)

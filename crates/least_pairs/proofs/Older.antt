@@ -1,10 +1,11 @@
 -- Older parts of an order, and moments within them.
-use Rattle.std.proofs.Common.{◌≡◌, ℕ, ◌≤◌, true, ◌⊎◌, List, [], ◌∷◌, ◌++◌, length, sym, refl, ap, ◌∙◌, subst, inl, inr, arith}
+use Rattle.std.proofs.Common.{◌≡◌, ℕ, ◌≤◌, true, ◌⊎◌, List, [], ◌∷◌, ◌++◌, length, sym, refl, ap, ◌∙◌, subst, inl, inr, arith, length-append}
 use Rattle.costs.specs.Counting.{hit, occurs}
 use Rattle.costs.proofs.Counted.{hit_self}
 use Rattle.least_pairs.specs.Runs.{has}
 use Rattle.least_pairs.specs.Laws.{Moment}
-use Rattle.least_pairs.proofs.Moments.{has_occurs, occurs_append, length_joined, has_here, has_after, moment_has, moment_more, moment_cases}
+use Rattle.least_pairs.proofs.Listed.{has_occurs, occurs_append, has_head, has_right}
+use Rattle.least_pairs.proofs.Moments.{moment_has, moment_more, moment_cases}
 
 -- some sites are the oldest of an order, in its order
 pub record Older (order part : List ℕ) : Type 0 where
@@ -39,7 +40,7 @@ older_before {order} {y} {S} m = subst (λ o. Older o S) (sym m.whole) (one_fewe
 
 -- what stands in an older part stands in the whole
 pub older_has : {order part : List ℕ} → Older order part → (x : ℕ) → has x part ≡ true → has x order ≡ true
-older_has {order} {part} o x h = subst (λ z. has x z ≡ true) (sym o.whole) (has_after x o.later part h)
+older_has {order} {part} o x h = subst (λ z. has x z ≡ true) (sym o.whole) (has_right x o.later part h)
 
 -- a moment of a list is one of it behind another
 outward : (later part : List ℕ) (x : ℕ) (S : List ℕ) → Moment part x S → Moment (later ++ part) x S
@@ -68,14 +69,12 @@ older_inward {order} {part} o {x} {S} once h m =
 
 -- a site is not settled before itself
 pub moment_once : {order : List ℕ} {y : ℕ} {S : List ℕ} → occurs y order ≤ 1 → Moment order y S → has y S ≡ true → ⊥
-moment_once {order} {y} {S} once m h =
-    let most : occurs y (m.later ++ y ∷ S) ≤ 1 = subst (λ z. occurs y z ≤ 1) m.whole once in
-    omega (arith, occurs_append y m.later (y ∷ S), hit_self y, has_occurs y S h)
+moment_once {order} {y} {S} once m h = grind (arith, occurs_append, hit_self, has_occurs)
 
 -- a site has one moment
 pub moment_one : {order : List ℕ} {y : ℕ} {S T : List ℕ} → occurs y order ≤ 1 → Moment order y S → Moment order y T → T ≡ S
 moment_one {order} {y} {S} {T} once m n =
-    elim (moment_cases (older_inward (older_moment m) once (has_here y S) n)) [
+    elim (moment_cases (older_inward (older_moment m) once (has_head y S) n)) [
       | inl q ↦ q.1
       | inr g ↦ absurd (moment_once once m (moment_has g))
     ]
@@ -100,9 +99,9 @@ older_next {order} {part} o =
 -- a list that is no longer than one of its older parts is that part
 none_later : (later part order : List ℕ) → order ≡ later ++ part → length order ≤ length part → order ≡ part
 none_later [] part order e h = e
-none_later (y ∷ later) part order e h = absurd (omega (arith, ap length e, length_joined later part))
+none_later (y ∷ later) part order e h = absurd (omega (arith, ap length e, length-append later part))
 
 -- two orders that are older parts of each other are one
 pub older_both : {a b : List ℕ} → Older a b → Older b a → a ≡ b
 older_both {a} {b} o p =
-    none_later o.later b a o.whole (omega (arith, ap length p.whole, length_joined p.later a))
+    none_later o.later b a o.whole (omega (arith, ap length p.whole, length-append p.later a))

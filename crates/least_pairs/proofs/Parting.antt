@@ -1,6 +1,6 @@
 -- The two climbs by which a flow reaches a newly struck site's piece: one ends at the start of its entry link, the other at the top of its piece.
-use Rattle.std.proofs.Common.{◌≡◌, ℕ, ◌+◌, true, false, ◌⊎◌, List, [], ◌∷◌, ◌++◌, Some, sym, refl, ap, ◌∙◌, subst, inl, inr, arith}
-use Rattle.std.proofs.lemmas.Bool.{both_ways, cases_Bool, cases_eq}
+use Rattle.std.proofs.Common.{◌≡◌, ℕ, ◌+◌, true, false, ◌⊎◌, List, ◌∷◌, ◌++◌, Some, sym, refl, ap, ◌∙◌, subst, inl, inr, arith}
+use Rattle.std.proofs.lemmas.Bool.{both_ways, cases_Bool, cases_eq, false_from_ne_true, true_from_ne_false}
 use Rattle.costs.specs.Costs.{Ops}
 use Rattle.costs.specs.Counting.{hit}
 use Rattle.least_pairs.specs.Runs.{Job, State, has}
@@ -9,7 +9,8 @@ use Rattle.least_pairs.specs.Plans.{up}
 use Rattle.least_pairs.specs.Laws.{RunLaws}
 use Rattle.least_pairs.proofs.Listed.{lacks_more, has_head, has_right}
 use Rattle.least_pairs.proofs.Tree.{root_reached, parent_reached, by_parents, up_settled, up_reached, up_self, up_more, up_cases, up_trans, up_antisym}
-use Rattle.least_pairs.proofs.Pieces.{top_of, some_same, joined_top, top_joined, joined_sym, joined_trans, top_free, top_reached, top_above, top_root, top_self, top_parent, joined_free, joined_refl, joined_parent, joined_climb, joined_between, joined_fewer}
+use Rattle.least_pairs.proofs.Options.{some_same}
+use Rattle.least_pairs.proofs.Pieces.{top_of, joined_top, top_joined, joined_sym, joined_trans, top_free, top_reached, top_above, top_root, top_self, top_parent, joined_free, joined_refl, joined_parent, joined_climb, joined_between, joined_fewer, joined_before}
 use Rattle.least_pairs.proofs.Climbs.{Climb, climb_of, climb_under, climb_over, climb_apart, climb_not_root}
 
 module _ {C : Type 0} {k : Ops C} {j : Job C} {root : ℕ} {s : State C} (run : RunLaws k j root s) where
@@ -24,10 +25,7 @@ module _ {C : Type 0} {k : Ops C} {j : Job C} {root : ℕ} {s : State C} (run : 
 
   -- the sites between a site and its top have that top
   pub top_between : (S : List ℕ) (w x z : ℕ) → top_of s S w ≡ Some z → has x (up s w) ≡ true → has z (up s x) ≡ true → top_of s S x ≡ Some z
-  top_between S w x z h hx hz =
-      let zw = top_joined run S z w z (top_top S w z h) h in
-      let p = joined_top run S x w (joined_between run S z x w hz hx zw) in
-      p.1 ∙ ap Some (some_same p.2 h)
+  top_between S w x z h hx hz = grind (arith, top_joined run, top_top, joined_top run, joined_between run, some_same)
 
   -- a site joined to another has its top
   pub joined_has_top : (S : List ℕ) (q u z : ℕ) → top_of s S q ≡ Some z → joined (up s) S q u ≡ true → top_of s S u ≡ Some z
@@ -37,27 +35,14 @@ module _ {C : Type 0} {k : Ops C} {j : Job C} {root : ℕ} {s : State C} (run : 
   pub top_inner : (S : List ℕ) (x z : ℕ) → top_of s S x ≡ Some z → (x ≡ z → ⊥) → top_of s S (parent s.labels x) ≡ Some z
   top_inner S x z h d =
       let ztop = top_top S x z h in
-      let lacks : has x (up s z) ≡ false = elim (cases_Bool (has x (up s z))) [
-        | inl t ↦ absurd (d (up_antisym run x z t (top_above run S x z h).0))
-        | inr f ↦ f
-      ] in
+      let lacks : has x (up s z) ≡ false = false_from_ne_true (has x (up s z)) (λ t. d (up_antisym run x z t (top_above run S x z h).0)) in
       joined_has_top S z (parent s.labels x) z ztop (joined_sym run S (parent s.labels x) z (joined_climb run S x z (top_joined run S x z z h ztop) lacks))
-
-  -- what is joined with more struck later is joined with fewer
-  pub joined_before : (more S : List ℕ) (u w : ℕ) → joined (up s) (more ++ S) u w ≡ true → joined (up s) S u w ≡ true
-  joined_before [] S u w h = h
-  joined_before (y ∷ more) S u w h = joined_before more S u w (joined_fewer run y (more ++ S) u w h)
 
   -- a site and one above it in its piece stay joined when a site that is not between them is struck
   pub joined_past : (q : ℕ) (S : List ℕ) (x u : ℕ) → has x (up s u) ≡ true → joined (up s) S x u ≡ true → ((y : ℕ) → has y (up s u) ≡ true → has x (up s y) ≡ true → y ≡ q → ⊥) → joined (up s) (q ∷ S) x u ≡ true
   joined_past q S x u hx hj clear =
       by_parents run (λ z. has x (up s z) ≡ true → joined (up s) S x z ≡ true → ((y : ℕ) → has y (up s z) ≡ true → has x (up s y) ≡ true → y ≡ q → ⊥) → joined (up s) (q ∷ S) x z ≡ true)
-      (λ h g c. elim (up_cases run x root h) [
-        | inl e ↦
-            let free : has root (q ∷ S) ≡ false = lacks_more root q S (c root (up_self run root (root_reached run)) h) (joined_free run S root x (joined_sym run S x root g)) in
-            subst (λ y. joined (up s) (q ∷ S) y root ≡ true) (sym e) (joined_refl run (q ∷ S) root (root_reached run) free)
-        | inr t ↦ absurd (t.0 refl)
-      ])
+      (λ h g c. grind (arith, up_cases run, lacks_more, up_self run, root_reached run, joined_free run, joined_sym run, joined_refl run))
       (λ z hz d ih h g c.
       let free : has z (q ∷ S) ≡ false = lacks_more z q S (c z (up_self run z hz) h) (joined_free run S z x (joined_sym run S x z g)) in
       elim (up_cases run x z h) [
@@ -114,11 +99,7 @@ module _ {C : Type 0} {k : Ops C} {j : Job C} {root : ℕ} {s : State C} (run : 
 
   -- the start of the entry link is not in the later piece
   pub start_out : top_of s (more ++ q ∷ S) u ≡ Some low → ⊥
-  start_out h =
-      elim parted [
-        | inl e ↦ both_ways (has u (more ++ q ∷ S)) (top_free run (more ++ q ∷ S) u low h) (subst (λ w. has w (more ++ q ∷ S) ≡ true) (sym e) (has_right q more (q ∷ S) (has_head q S)))
-        | inr f ↦ both_ways (joined (up s) (q ∷ S) u t) f (in_later u h)
-      ]
+  start_out h = grind (arith, top_free run, has_right, has_head, in_later)
 
   q_under : has z (up s q) ≡ true
   q_under = (top_above run S q z hq).0
@@ -159,9 +140,7 @@ module _ {C : Type 0} {k : Ops C} {j : Job C} {root : ℕ} {s : State C} (run : 
         within = λ x i. top_between run S low x z low_top (climb_over run low z x a.0 a.1 i) (climb_under run low z x a.0 a.1 zr i);
         other_within = inside;
         apart = λ x i o.
-            let above = climb_over run low z x a.0 a.1 i in
-            let xl = joined_past run q S x low above (top_joined run S x low z (inside x o) low_top) (λ y hy gy. not_past x o y gy) in
-            out x o (joined_trans run (q ∷ S) x low t xl low_joined);
+            grind (arith, climb_over run, joined_past run, top_joined run, low_top, joined_trans run, low_joined);
         other_out = λ x o g. out x o (in_later x g);
         other_starts = λ x o. starts_out x (climb_not_root run u q x b.0 b.1 q_reached o) (inside x o) (climb_apart run u q x b.0 b.1 q_reached o) (out x o);
       }
@@ -172,19 +151,12 @@ module _ {C : Type 0} {k : Ops C} {j : Job C} {root : ℕ} {s : State C} (run : 
       let zr = up_reached run z q q_under in
       let zu = (top_above run S u z hu).0 in
       let not_past : (y : ℕ) → has y (up s u) ≡ true → y ≡ q → ⊥ = λ y g e. both_ways (has q (up s u)) h (subst (λ w. has w (up s u) ≡ true) e g) in
-      let cut : joined (up s) (q ∷ S) u t ≡ false = elim parted [
-        | inl e ↦ absurd (not_past u (up_self run u (top_reached run S u z hu)) e)
-        | inr f ↦ f
-      ] in
+      let cut : joined (up s) (q ∷ S) u t ≡ false = grind (arith, up_self run, top_reached run) in
       let past_u : (x : ℕ) → has x (up s u) ≡ true → top_of s S x ≡ Some z → joined (up s) (q ∷ S) u x ≡ true =
       λ x g i. joined_sym run (q ∷ S) x u (joined_past run q S x u g (top_joined run S x u z i hu) (λ y hy gy. not_past y hy)) in
-      let above : has q (up s low) ≡ true = elim (cases_Bool (has q (up s low))) [
-        | inl g ↦ g
-        | inr f ↦
-            let ztop = top_top run S u z hu in
-            let zl = joined_past run q S z low (top_above run S low z low_top).0 (top_joined run S z low z ztop low_top) (λ y hy gy e. both_ways (has q (up s low)) f (subst (λ w. has w (up s low) ≡ true) e hy)) in
-            absurd (both_ways (joined (up s) (q ∷ S) u t) cut (joined_trans run (q ∷ S) u z t (past_u z zu ztop) (joined_trans run (q ∷ S) z low t zl low_joined)))
-      ] in
+      let above : has q (up s low) ≡ true = true_from_ne_false (has q (up s low)) (λ f. let ztop = top_top run S u z hu in
+      let zl = joined_past run q S z low (top_above run S low z low_top).0 (top_joined run S z low z ztop low_top) (λ y hy gy e. both_ways (has q (up s low)) f (subst (λ w. has w (up s low) ≡ true) e hy)) in
+      both_ways (joined (up s) (q ∷ S) u t) cut (joined_trans run (q ∷ S) u z t (past_u z zu ztop) (joined_trans run (q ∷ S) z low t zl low_joined))) in
       let a = climb_of run q low above in
       let b = climb_of run z u zu in
       let inside : (x : ℕ) → has x b.0 ≡ true → top_of s S x ≡ Some z =

@@ -1,26 +1,16 @@
 -- The pieces into which a tree falls as sites are struck.
-use Rattle.std.proofs.Common.{◌≡◌, ℕ, true, false, ◌⊎◌, List, [], ◌∷◌, Some, None, Option, sym, refl, ap, ◌∙◌, subst, inl, inr, arith}
-use Rattle.std.proofs.lemmas.Bool.{eq-eqb, eqb-true, both_ways, cases_Bool, cases_eq, cond-true, cond-false}
+use Rattle.std.proofs.Common.{◌≡◌, ℕ, true, false, List, [], ◌∷◌, ◌++◌, Some, None, Option, sym, refl, ap, ◌∙◌, subst, inl, inr}
+use Rattle.std.proofs.lemmas.Bool.{eq-eqb, eqb-true, both_ways, cases_Bool, cases_eq, cond-true, cond-false, false_from_ne_true, true_from_ne_false}
 use Rattle.costs.specs.Costs.{Ops}
 use Rattle.least_pairs.specs.Runs.{Job, State, has}
 use Rattle.least_pairs.specs.Trees.{parent, later, top, same_site, joined}
 use Rattle.least_pairs.specs.Plans.{up}
 use Rattle.least_pairs.specs.Laws.{RunLaws}
+use Rattle.least_pairs.proofs.Options.{some_same}
+-- the crates above cite these by the names that stand here
+pub use Rattle.least_pairs.proofs.Options.{some_none, cases_option}
 use Rattle.least_pairs.proofs.Listed.{has_head, has_tail, lacks_more, lacks_tail}
 use Rattle.least_pairs.proofs.Tree.{root_reached, parent_reached, by_parents, up_none, up_root, up_other, up_cases, up_settled, up_reached, up_trans, up_parent_lacks}
-
--- some is not none
-pub some_none : {A : Type 0} {o : Option A} {x : A} → o ≡ Some x → o ≡ None → ⊥
-some_none p q = let z : ◌≡◌ {A = ℕ} 0 1 = cc in omega arith
-
--- two values of one are equal
-pub some_same : {A : Type 0} {o : Option A} {x y : A} → o ≡ Some x → o ≡ Some y → x ≡ y
-some_same p q = cc
-
--- there is none, or some
-pub cases_option : {A : Type 0} (o : Option A) → (o ≡ None) ⊎ ((x : A) × (o ≡ Some x))
-cases_option None = inl refl
-cases_option (Some x) = inr (x, refl)
 
 -- a top is one of the list, and is not struck
 pub top_listed : (S xs : List ℕ) (z : ℕ) → top S xs ≡ Some z → (has z xs ≡ true) × (has z S ≡ false)
@@ -85,11 +75,11 @@ module _ {C : Type 0} {k : Ops C} {j : Job C} {root : ℕ} {s : State C} (run : 
 
   -- a site with a top is not struck
   pub top_free : (S : List ℕ) (w z : ℕ) → top_of s S w ≡ Some z → has w S ≡ false
-  top_free S w z h = elim (cases_Bool (has w S)) [ inl t ↦ absurd (some_none h (top_struck S w t)) | inr f ↦ f ]
+  top_free S w z h = false_from_ne_true (has w S) (λ t. some_none h (top_struck S w t))
 
   -- a site with a top is settled
   pub top_reached : (S : List ℕ) (w z : ℕ) → top_of s S w ≡ Some z → has w s.order ≡ true
-  top_reached S w z h = elim (cases_Bool (has w s.order)) [ inl t ↦ t | inr f ↦ absurd (some_none h (ap (top S) (up_none run w f))) ]
+  top_reached S w z h = true_from_ne_false (has w s.order) (λ f. some_none h (ap (top S) (up_none run w f)))
 
   -- a top is above, and is not struck
   pub top_above : (S : List ℕ) (w z : ℕ) → top_of s S w ≡ Some z → (has z (up s w) ≡ true) × (has z S ≡ false)
@@ -231,6 +221,11 @@ module _ {C : Type 0} {k : Ops C} {j : Job C} {root : ℕ} {s : State C} (run : 
       let q = top_some S u (top_reached (y ∷ S) u p.0 p.1) (lacks_tail u y S (top_free (y ∷ S) u p.0 p.1)) in
       top_joined S u w q.0 q.1 (top_fewer y S w p.0 p.2 ∙ sym t ∙ q.1)
 
+  -- what is joined with more struck later is joined with fewer
+  pub joined_before : (more S : List ℕ) (u w : ℕ) → joined (up s) (more ++ S) u w ≡ true → joined (up s) S u w ≡ true
+  joined_before [] S u w h = h
+  joined_before (y ∷ more) S u w h = joined_before more S u w (joined_fewer y (more ++ S) u w h)
+
   -- a strike elsewhere does not change a site's top
   pub top_kept : (y : ℕ) (S : List ℕ) (w : ℕ) → has w s.order ≡ true → joined (up s) S y w ≡ false → top_of s (y ∷ S) w ≡ top_of s S w
   top_kept y S w h f =
@@ -246,24 +241,14 @@ module _ {C : Type 0} {k : Ops C} {j : Job C} {root : ℕ} {s : State C} (run : 
         | inr o ↦
             let p = parent s.labels x in
             let differs : x ≡ y → ⊥ = λ e. both_ways (joined (up s) S y x) g (subst (λ z. joined (up s) S z x ≡ true) e (joined_refl S x hx o)) in
-            let apart : joined (up s) S y p ≡ false = elim (cases_Bool (joined (up s) S y p)) [
-              | inl t ↦ absurd (both_ways (joined (up s) S y x) g (joined_trans S y p x t (joined_sym S x p (joined_parent S x hx n o (joined_free S p y (joined_sym S y p t))))))
-              | inr e ↦ e
-            ] in
+            let apart : joined (up s) S y p ≡ false = false_from_ne_true (joined (up s) S y p) (λ t. both_ways (joined (up s) S y x) g (joined_trans S y p x t (joined_sym S x p (joined_parent S x hx n o (joined_free S p y (joined_sym S y p t)))))) in
             top_other (y ∷ S) x hx n (lacks_more x y S differs o) ∙ ap (λ t. later t x) (ih apart) ∙ sym (top_other S x hx n o)
       ]) w h f
 
   -- a strike that parts two sites lies in their piece
   pub joined_parted : (y : ℕ) (S : List ℕ) (u w : ℕ) → joined (up s) S u w ≡ true → joined (up s) (y ∷ S) u w ≡ false → joined (up s) S y u ≡ true
   joined_parted y S u w h f =
-      elim (cases_Bool (joined (up s) S y u)) [
-        | inl t ↦ t
-        | inr g ↦
-            let p = joined_top S u w h in
-            let g' : joined (up s) S y w ≡ false = elim (cases_Bool (joined (up s) S y w)) [
-              | inl t ↦ absurd (both_ways (joined (up s) S y u) g (joined_trans S y w u t (joined_sym S u w h)))
-              | inr e ↦ e
-            ] in
-            absurd (both_ways (joined (up s) (y ∷ S) u w) f
-            (top_joined (y ∷ S) u w p.0 (top_kept y S u (top_reached S u p.0 p.1) g ∙ p.1) (top_kept y S w (top_reached S w p.0 p.2) g' ∙ p.2)))
-      ]
+      true_from_ne_false (joined (up s) S y u) (λ g. let p = joined_top S u w h in
+      let g' : joined (up s) S y w ≡ false = false_from_ne_true (joined (up s) S y w) (λ t. both_ways (joined (up s) S y u) g (joined_trans S y w u t (joined_sym S u w h))) in
+      both_ways (joined (up s) (y ∷ S) u w) f
+      (top_joined (y ∷ S) u w p.0 (top_kept y S u (top_reached S u p.0 p.1) g ∙ p.1) (top_kept y S w (top_reached S w p.0 p.2) g' ∙ p.2)))

@@ -1,12 +1,16 @@
 -- What holds at every moment of a run.
-use Rattle.std.proofs.Common.{◌≡◌, ℕ, ◌<◌, ◌≤◌, Bool, true, false, cond, eqb, ◌⊎◌, List, [], ◌∷◌, Some, Option, sym, refl, ap, ◌∙◌, subst, inl, inr, arith}
-use Rattle.std.proofs.lemmas.Bool.{both_ways, ne_eqb, cases_Bool, cases_eq, or_parts}
+use Rattle.std.proofs.Common.{◌≡◌, ℕ, ◌<◌, ◌≤◌, true, false, eqb, ◌⊎◌, List, [], ◌∷◌, Some, sym, refl, ap, ◌∙◌, subst, inl, inr, arith}
+use Rattle.std.proofs.lemmas.Bool.{both_ways, or_parts, false_from_ne_true}
 use Rattle.costs.specs.Costs.{Ops, Laws, Le, Lt}
-use Rattle.costs.specs.Counting.{hit, occurs}
+use Rattle.costs.specs.Counting.{occurs}
 use Rattle.costs.proofs.Order.{lt_le, lt_le_trans, le_trans, lt_self, le_same, le_antisym, le_plus_right, plus_least}
 use Rattle.least_pairs.specs.Runs.{Label, Job, State, has, spread}
 use Rattle.least_pairs.specs.Laws.{Moment, Considered}
-use Rattle.least_pairs.proofs.Moments.{lacks_occurs, has_here, has_there, has_cases, moment_has, moment_before, moment_more, moment_newest, moment_cases}
+use Rattle.least_pairs.proofs.Listed.{lacks_occurs, has_head, has_tail, has_cases, hit_most, hit_other}
+use Rattle.least_pairs.proofs.Options.{some_same}
+-- the crates above cite these by the names that stand here
+pub use Rattle.least_pairs.proofs.Options.{some_same as one_label}
+use Rattle.least_pairs.proofs.Moments.{moment_has, moment_before, moment_more, moment_newest, moment_cases}
 use Rattle.least_pairs.proofs.Spreading.{given, Kept, Renewed, spreads, stays}
 use Rattle.least_pairs.proofs.Choosing.{Next}
 
@@ -46,18 +50,6 @@ pub record Running {C : Type 0} (k : Ops C) (j : Job C) (root : ℕ) (s : State 
   -- each site settled was the least of those offered until then
   pub chosen : (y : ℕ) (S : List ℕ) (m : Label C) → Moment s.order y S → s.labels y ≡ Some m → (z : ℕ) (R : List ℕ) (e : ℕ) (l : Label C) → Considered j s.order z R e → has z S ≡ true → s.labels z ≡ Some l → (j.end e ≡ y → ⊥) → (has (j.end e) S ≡ true → ⊥) → Le k m.cost (k.plus l.cost (j.adds e)) × (m.cost ≡ k.plus l.cost (j.adds e) → y < j.end e)
 
--- a site counts at most once for one
-hit_most : (w y : ℕ) → hit w y ≤ 1
-hit_most w y = elim (eqb w y) as (λ b. cond b 1 0 ≤ 1) [ true ↦ omega arith | false ↦ omega arith ]
-
--- two labels of one site are one
-pub one_label : {C : Type 0} {o : Option (Label C)} {l m : Label C} → o ≡ Some l → o ≡ Some m → l ≡ m
-one_label p q = cc
-
--- what does not hold is false
-refuted : (b : Bool) → (b ≡ true → ⊥) → b ≡ false
-refuted b h = elim (cases_Bool b) [ inl e ↦ absurd (h e) | inr e ↦ e ]
-
 -- one site more is settled
 module _ {C : Type 0} {k : Ops C} (laws : Laws k) (j : Job C) (root : ℕ) (sound : SoundJob k j root) (s : State C) (r : Running k j root s) (y : ℕ) (c : C) (n : Next k s j.sites y c) where
   -- the state after
@@ -80,19 +72,15 @@ module _ {C : Type 0} {k : Ops C} (laws : Laws k) (j : Job C) (root : ℕ) (soun
 
   -- the labels of settled sites stay
   was : (x : ℕ) → has x (y ∷ s.order) ≡ true → after.labels x ≡ s.labels x
-  was x h =
-      let l = low x h in
-      stays laws j y c s.order s.labels (λ e. sound.adds y s.order e) x l.0 l.1 l.2 ∙ sym l.1
+  was x h = grind (arith, low, stays laws)
 
   -- a settled site's label after costs at most as much as this one's
   after_low : (x : ℕ) (l : Label C) → has x (y ∷ s.order) ≡ true → after.labels x ≡ Some l → Le k l.cost c
-  after_low x l h is =
-      let m = low x h in
-      subst (λ z. Le k z.cost c) (one_label m.1 (sym (was x h) ∙ is)) m.2
+  after_low x l h is = grind (arith, low, some_same, was)
 
   -- this one's label after costs as much as before
   after_newest : (m : Label C) → after.labels y ≡ Some m → m.cost ≡ c
-  after_newest m is = ap (λ z. z.cost) (one_label (sym (was y (has_here y s.order)) ∙ is) n.labelled) ∙ n.costs
+  after_newest m is = ap (λ z. z.cost) (some_same (sym (was y (has_head y s.order)) ∙ is) n.labelled) ∙ n.costs
 
   -- this one's label costs no less than zero
   newest_zero : Le k k.zero c
@@ -112,25 +100,15 @@ module _ {C : Type 0} {k : Ops C} (laws : Laws k) (j : Job C) (root : ℕ) (soun
 
   -- the label of a site settled before, from the one after
   before : (x : ℕ) (l : Label C) → has x s.order ≡ true → after.labels x ≡ Some l → s.labels x ≡ Some l
-  before x l h is = sym (was x (has_there x y s.order h)) ∙ is
+  before x l h is = sym (was x (has_tail x y s.order h)) ∙ is
 
   -- no site is settled twice
   once_more : (w : ℕ) → occurs w (y ∷ s.order) ≤ 1
-  once_more w =
-      elim (cases_eq w y) [
-        | inl q ↦ omega (arith, hit_most w y, subst (λ z. occurs z s.order ≡ 0) (sym q) (lacks_occurs y s.order n.unsettled))
-        | inr q ↦
-            let none : hit w y ≡ 0 = ap (λ b. cond b 1 0) (ne_eqb w y q) in
-            omega (arith, r.once w)
-      ]
+  once_more w = grind (arith, hit_most, lacks_occurs, hit_other)
 
   -- every site with a label is a site of the job
   labelled_more : (w : ℕ) (l : Label C) → after.labels w ≡ Some l → w < j.sites
-  labelled_more w l is =
-      elim (came w) [
-        | inl a ↦ r.labelled w l (sym a.same ∙ is)
-        | inr a ↦ subst (λ z. z < j.sites) a.ends (sound.ends y s.order a.over a.below a.considers)
-      ]
+  labelled_more w l is = grind (arith, came)
 
   -- a site that is not settled after has a label that costs at least as much as this one's
   ahead : (w : ℕ) (m : Label C) → has w (y ∷ s.order) ≡ false → after.labels w ≡ Some m → Le k c m.cost
@@ -140,7 +118,7 @@ module _ {C : Type 0} {k : Ops C} (laws : Laws k) (j : Job C) (root : ℕ) (soun
             let old : s.labels w ≡ Some m = sym a.same ∙ is in
             (n.least w (r.labelled w m old) (or_parts (eqb w y) (has w s.order) left).1 m old).0
         | inr a ↦
-            subst (λ z. Le k c z.cost) (one_label a.label is) (le_plus_right laws c (sound.adds y s.order a.over a.below a.considers))
+            subst (λ z. Le k c z.cost) (some_same a.label is) (le_plus_right laws c (sound.adds y s.order a.over a.below a.considers))
       ]
 
   -- no label costs less than zero
@@ -149,7 +127,7 @@ module _ {C : Type 0} {k : Ops C} (laws : Laws k) (j : Job C) (root : ℕ) (soun
       elim (came w) [
         | inl a ↦ r.least_zero w l (sym a.same ∙ is)
         | inr a ↦
-            subst (λ z. Le k k.zero z.cost) (one_label a.label is) (plus_least laws newest_zero (sound.adds y s.order a.over a.below a.considers))
+            subst (λ z. Le k k.zero z.cost) (some_same a.label is) (plus_least laws newest_zero (sound.adds y s.order a.over a.below a.considers))
       ]
 
   -- sites are settled in the order of their costs
@@ -157,7 +135,7 @@ module _ {C : Type 0} {k : Ops C} (laws : Laws k) (j : Job C) (root : ℕ) (soun
   rising_more z S moment x h l m l_is m_is =
       elim (moment_cases moment) [
         | inl q ↦
-            let settled_x = has_there x y s.order (subst (λ T. has x T ≡ true) q.1 h) in
+            let settled_x = has_tail x y s.order (subst (λ T. has x T ≡ true) q.1 h) in
             le_trans laws (after_low x l settled_x l_is) (le_same laws (sym (after_newest m (subst (λ a. after.labels a ≡ Some m) q.0 m_is))))
         | inr old ↦ r.rising z S old x h l m (before x l (moment_before old x h) l_is) (before z m (moment_has old) m_is)
       ]
@@ -189,10 +167,10 @@ module _ {C : Type 0} {k : Ops C} (laws : Laws k) (j : Job C) (root : ℕ) (soun
       elim (came w) [
         | inl a ↦
             let o = r.reason w m other (sym a.same ∙ is) in
-            (o.0, o.1, considered_more o.2, o.3, was m.turn (has_there m.turn y s.order (moment_has o.2.moment)) ∙ o.4, o.5)
+            (o.0, o.1, considered_more o.2, o.3, was m.turn (has_tail m.turn y s.order (moment_has o.2.moment)) ∙ o.4, o.5)
         | inr a ↦
-            subst (λ z. Reason k j after w z) (one_label a.label is)
-            (s.order, n.label, record { moment = moment_newest y s.order; link = a.below; considers = a.considers }, a.ends, was y (has_here y s.order) ∙ n.labelled, ap (λ z. k.plus z (j.adds a.over)) (sym n.costs))
+            subst (λ z. Reason k j after w z) (some_same a.label is)
+            (s.order, n.label, record { moment = moment_newest y s.order; link = a.below; considers = a.considers }, a.ends, was y (has_head y s.order) ∙ n.labelled, ap (λ z. k.plus z (j.adds a.over)) (sym n.costs))
       ]
 
   -- a site's turn is settled before it
@@ -216,14 +194,11 @@ module _ {C : Type 0} {k : Ops C} (laws : Laws k) (j : Job C) (root : ℕ) (soun
               | inr g ↦ r.earliest w m other old z S e l g ends (before z l (moment_has g.moment) l_is) costs
             ]
         | inr a ↦
-            let same : given k j y c a.over ≡ m = one_label a.label is in
+            let same : given k j y c a.over ≡ m = some_same a.label is in
             let m_costs : k.plus c (j.adds a.over) ≡ m.cost = ap (λ x. x.cost) same in
             elim (considered_cases z S e h) [
               | inl q ↦
-                  let l_costs : l.cost ≡ c = after_newest l (subst (λ x. after.labels x ≡ Some l) q.0 l_is) in
-                  let equal : k.plus c (j.adds a.over) ≡ k.plus c (j.adds e) = m_costs ∙ costs ∙ ap (λ x. k.plus x (j.adds e)) l_costs in
-                  let lowest : a.over ≤ e = (a.low e h.link q.2 ends).1 equal in
-                  inr (q.0 ∙ ap (λ x. x.turn) same, subst (λ x. x.link ≤ e) same lowest)
+                  grind (arith, after_newest, a.low)
               | inr g ↦
                   let o = r.offers z S e g l (before z l (moment_has g.moment) l_is) in
                   let less = a.lower o.0 (subst (λ x. s.labels x ≡ Some o.0) ends o.1) in
@@ -245,7 +220,7 @@ module _ {C : Type 0} {k : Ops C} (laws : Laws k) (j : Job C) (root : ℕ) (soun
               | inl p ↦ absurd (not_newest z z_old p.0)
               | inr g ↦
                   let o = r.offers z R e g l (before z l z_old l_is) in
-                  let open_end : has (j.end e) s.order ≡ false = refuted (has (j.end e) s.order) (λ t. left (subst (λ T. has (j.end e) T ≡ true) (sym q.1) t)) in
+                  let open_end : has (j.end e) s.order ≡ false = false_from_ne_true (has (j.end e) s.order) (λ t. left (subst (λ T. has (j.end e) T ≡ true) (sym q.1) t)) in
                   let best = n.least (j.end e) (r.labelled (j.end e) o.0 o.1) open_end o.0 o.1 in
                   let costs : m.cost ≡ c = after_newest m (subst (λ a. after.labels a ≡ Some m) q.0 is) in (
                     le_trans laws (le_same laws costs) (le_trans laws best.0 o.2),

@@ -1,33 +1,26 @@
 -- Sizes: what the runs offer stays far below the limit of exact sums.
-use Rattle.std.proofs.Common.{◌≡◌, ℕ, zero, suc, ◌+◌, ◌*◌, ◌≤◌, true, List, ◌∷◌, ◌++◌, length, Some, sym, ap, ◌∙◌, subst, ⊎_elim, append_assoc, mul-le-mul_right, add-mul, one-mul, arith, length-append}
+use Rattle.std.proofs.Common.{◌≡◌, ℕ, zero, suc, ◌+◌, ◌*◌, ◌≤◌, true, List, ◌∷◌, length, Some, sym, ap, ◌∙◌, subst, ⊎_elim, mul-le-mul_right, add-mul, one-mul, arith, length-append}
 use Rattle.std.proofs.lemmas.Bool.{cases_eq}
 use Rattle.costs.specs.Costs.{Ops, Laws}
 use Rattle.least_pairs.specs.Runs.{Label, Job, State, has}
 use Rattle.least_pairs.specs.Laws.{Moment, Considered, RunLaws}
-use Rattle.least_pairs.proofs.Listed.{has_parts}
+use Rattle.least_pairs.proofs.Options.{some_same}
+use Rattle.least_pairs.proofs.Listed.{moment_of}
+use Rattle.least_pairs.proofs.Older.{older_before, older_outward}
 
 module _ {C : Type 0} {k : Ops C} (laws : Laws k) {j : Job C} {root : ℕ} {s : State C} (rl : RunLaws k j root s) where
   -- who was settled before a moment has a moment of its own, with fewer settled before
   earlier_moment : (w x : ℕ) (T : List ℕ) → Moment s.order w T → has x T ≡ true → (R : List ℕ) × Moment s.order x R × (length R + 1 ≤ length T)
   earlier_moment w x T m h =
-      let parts = has_parts x T h in
-      let front = parts.0 in
-      let back = parts.1 in
-      let whole : s.order ≡ (m.later ++ w ∷ front) ++ x ∷ back = m.whole ∙ ap (λ xs. m.later ++ w ∷ xs) parts.2 ∙ sym (append_assoc m.later (w ∷ front) (x ∷ back)) in
-      let long : length T ≡ length front + suc (length back) = ap length parts.2 ∙ length-append front (x ∷ back) in
-      (back, record { later = m.later ++ w ∷ front; whole = whole }, omega arith)
-
-  cost_same : {a b : Label C} → Some a ≡ Some b → a.cost ≡ b.cost
-  cost_same {a} {b} e = let same : a ≡ b = cc in ap (λ x. x.cost) same
+      let p = moment_of x T h in
+      (p.0, older_outward (older_before m) p.1, omega (arith, ap length p.1.whole, length-append p.1.later (x ∷ p.0)))
 
   -- a label's size, by the sizes of the labels before
   one_label : (most : ℕ) → ((y : ℕ) (S : List ℕ) (e : ℕ) → Considered j s.order y S e → k.size (j.adds e) ≤ most) → (w : ℕ) (T : List ℕ) (m : Label C) → Moment s.order w T → s.labels w ≡ Some m → ((x : ℕ) (R : List ℕ) (l : Label C) → length R + 1 ≤ length T → Moment s.order x R → s.labels x ≡ Some l → k.size l.cost ≤ length R * most) → k.size m.cost ≤ length T * most
   one_label most each w T m at label below =
       ⊎_elim
       (λ same.
-      let zero_cost : m.cost ≡ k.zero = cost_same (sym label ∙ ap s.labels same ∙ rl.root_label) in
-      let none : k.size m.cost ≡ 0 = ap k.size zero_cost ∙ laws.size_zero in
-      omega arith)
+      grind (arith, some_same))
       (λ other.
       let r = rl.reason w m other label in
       let l = r.1 in

@@ -1,6 +1,6 @@
 -- What a settled site leaves of the labels, link by link.
 use Rattle.std.proofs.Common.{◌≡◌, ℕ, zero, suc, ◌<◌, ◌≤◌, true, false, cond, ◌⊎◌, List, Some, None, Option, sym, refl, ap, ◌∙◌, subst, inl, inr, arith}
-use Rattle.std.proofs.lemmas.Bool.{both_ways, eq-eqb, ne_eqb, cases_Bool, cases_eq}
+use Rattle.std.proofs.lemmas.Bool.{both_ways, cases_Bool, cases_eq}
 use Rattle.costs.specs.Costs.{Ops, Laws, Le, Lt}
 use Rattle.costs.proofs.Order.{lt_le, lt_trans, lt_le_trans, le_trans, lt_self, le_not_lt, le_plus_right, le_same}
 use Rattle.least_pairs.proofs.Moments.{below_cases}
@@ -37,17 +37,11 @@ improves_not k c (Some m) h = (m, refl, h)
 module _ {C : Type 0} {k : Ops C} (laws : Laws k) (j : Job C) (y : ℕ) (c : C) where
   -- an offer leaves the labels of other sites
   offered_other : (e w : ℕ) (labels : ℕ → Option (Label C)) → (j.end e ≡ w → ⊥) → offered k j y c e labels w ≡ labels w
-  offered_other e w labels other =
-      elim (improves k (k.plus c (j.adds e)) (labels (j.end e))) as (λ b. (cond b (relabelled labels (j.end e) (given k j y c e)) labels) w ≡ labels w) [
-        | true ↦ ap (λ b. cond b (Some (given k j y c e)) (labels w)) (ne_eqb w (j.end e) (λ s. other (sym s)))
-        | false ↦ refl
-      ]
+  offered_other e w labels other = grind arith
 
   -- a better offer is taken
   offered_better : (e w : ℕ) (labels : ℕ → Option (Label C)) → j.end e ≡ w → improves k (k.plus c (j.adds e)) (labels w) ≡ true → offered k j y c e labels w ≡ Some (given k j y c e)
-  offered_better e w labels ends h =
-      ap (λ b. (cond b (relabelled labels (j.end e) (given k j y c e)) labels) w) (ap (λ z. improves k (k.plus c (j.adds e)) (labels z)) ends ∙ h)
-      ∙ ap (λ b. cond b (Some (given k j y c e)) (labels w)) (eq-eqb w (j.end e) (sym ends))
+  offered_better e w labels ends h = grind arith
 
   -- another offer is not
   offered_worse : (e w : ℕ) (labels : ℕ → Option (Label C)) → j.end e ≡ w → improves k (k.plus c (j.adds e)) (labels w) ≡ false → offered k j y c e labels w ≡ labels w
@@ -81,16 +75,7 @@ module _ {C : Type 0} {k : Ops C} (laws : Laws k) (j : Job C) (y : ℕ) (c : C) 
           label = same ∙ a.label;
           lower = a.lower;
           low = λ f h cons ends.
-              elim (below_cases f e h) [
-                | inl l ↦ a.low f l cons ends
-                | inr q ↦
-                    let r = met (subst (λ z. j.considers y S z ≡ true) q cons) (subst (λ z. j.end z ≡ w) q ends) in
-                    let is : Some r.0 ≡ Some (given k j y c a.over) = sym r.1 ∙ a.label in
-                    let costs : r.0.cost ≡ k.plus c (j.adds a.over) = cc in (
-                      subst (λ z. Le k z (k.plus c (j.adds f))) costs (subst (λ z. Le k r.0.cost (k.plus c (j.adds z))) (sym q) r.2),
-                      λ _. omega (arith, a.below),
-                    )
-              ];
+              grind (arith, below_cases, a.low);
         })
 
     -- a link that gives a site a new label
@@ -129,12 +114,7 @@ module _ {C : Type 0} {k : Ops C} (laws : Laws k) (j : Job C) (y : ℕ) (c : C) 
           label = label;
           lower = λ l is. lt_trans laws less (a.lower l is);
           low = λ f h fcons fends.
-              elim (below_cases f e h) [
-                | inl l ↦
-                    let t = lt_le_trans laws less (a.low f l fcons fends).0 in
-                    (lt_le laws t, λ q. absurd (lt_self laws (subst (λ z. Lt k z (k.plus c (j.adds f))) q t)))
-                | inr q ↦ (le_same laws (ap (λ z. k.plus c (j.adds z)) (sym q)), λ _. omega arith)
-              ];
+              grind (arith, below_cases, lt_le_trans laws, lt_le laws, lt_self laws, le_same laws, a.low);
         }
 
     -- one link more at a site

@@ -1,6 +1,6 @@
 -- The second run: which strike parts two sites, and what is offered then.
-use Rattle.std.proofs.Common.{◌≡◌, ℕ, true, false, not, ◌&&◌, ◌||◌, eqb, ◌⊎◌, List, [], ◌∷◌, ◌++◌, Some, sym, refl, ap, ◌∙◌, subst, inl, inr, append_assoc}
-use Rattle.std.proofs.lemmas.Bool.{ne_eqb, both_ways, cases_Bool, and_from, not_from_false, or_right}
+use Rattle.std.proofs.Common.{◌≡◌, ℕ, true, false, ◌⊎◌, List, [], ◌∷◌, ◌++◌, Some, sym, refl, ap, ◌∙◌, subst, inl, inr, append_assoc}
+use Rattle.std.proofs.lemmas.Bool.{both_ways, cases_Bool}
 use Rattle.costs.specs.Costs.{Ops, Laws, Le}
 use Rattle.costs.proofs.Order.{le_same}
 use Rattle.least_pairs.specs.Views.{View}
@@ -10,8 +10,9 @@ use Rattle.least_pairs.specs.Plans.{first_job, second_job, cost_of, tree_link, r
 use Rattle.least_pairs.specs.Laws.{Moment, Considered, RunLaws}
 use Rattle.least_pairs.proofs.Sight.{SoundView}
 use Rattle.least_pairs.proofs.Listed.{has_head, has_right, moment_of}
-use Rattle.least_pairs.proofs.Tree.{moment_before, moment_has}
-use Rattle.least_pairs.proofs.Pieces.{joined_trans, joined_fewer, joined_all, joined_parted}
+use Rattle.least_pairs.proofs.Moments.{moment_before, moment_has}
+use Rattle.least_pairs.proofs.Pieces.{joined_trans, joined_all, joined_parted}
+use Rattle.least_pairs.proofs.Second.{second_considers}
 
 -- two splits of one list: at one place, or one is later
 pub split_cases : (xs ys : List ℕ) (x y : ℕ) (S T : List ℕ) → xs ++ x ∷ S ≡ ys ++ y ∷ T → ((x ≡ y) × (S ≡ T)) ⊎ (((mid : List ℕ) × (S ≡ mid ++ y ∷ T)) ⊎ ((mid : List ℕ) × (T ≡ mid ++ x ∷ S)))
@@ -46,11 +47,6 @@ pub record Parting {C : Type 0} (first second : State C) (u w x : ℕ) (S : List
   pub apart : joined (up first) (x ∷ S) u w ≡ false
 
 module _ {C : Type 0} {k : Ops C} {v : View C} {root : ℕ} {first second : State C} (laws : Laws k) (sound : SoundView k v) (tree : RunLaws k (first_job v) root first) (run : RunLaws k (second_job k v root first) root second) where
-  -- what is joined after a list of strikes is joined before them
-  pub joined_before : (mid S : List ℕ) (u w : ℕ) → joined (up first) (mid ++ S) u w ≡ true → joined (up first) S u w ≡ true
-  joined_before [] S u w h = h
-  joined_before (y ∷ mid) S u w h = joined_before mid S u w (joined_fewer tree y (mid ++ S) u w h)
-
   -- reached sites that are not joined after some strikes were parted by one of them
   parted_in : (front S : List ℕ) (u w : ℕ) → second.order ≡ front ++ S → has u first.order ≡ true → has w first.order ≡ true → joined (up first) S u w ≡ false → (x : ℕ) × (T : List ℕ) × Parting first second u w x T
   parted_in front [] u w e hu hw h = absurd (both_ways (joined (up first) [] u w) h (joined_all tree u w hu hw))
@@ -74,14 +70,14 @@ module _ {C : Type 0} {k : Ops C} {v : View C} {root : ℕ} {first second : Stat
       record {
         moment = p.moment;
         link = sound.link e h;
-        considers =
-            and_from (v.usable e && not (tree_link v first root e)) ((joined (up first) S x a && joined (up first) S x b) && (not (eqb b x) && (eqb a x || not (joined (up first) (x ∷ S) a b))))
-            (and_from (v.usable e) (not (tree_link v first root e)) h (not_from_false (tree_link v first root e) t))
-            (and_from (joined (up first) S x a && joined (up first) S x b) (not (eqb b x) && (eqb a x || not (joined (up first) (x ∷ S) a b)))
-            (and_from (joined (up first) S x a) (joined (up first) S x b) xa xb)
-            (and_from (not (eqb b x)) (eqb a x || not (joined (up first) (x ∷ S) a b))
-            (not_from_false (eqb b x) (ne_eqb b x n))
-            (or_right (eqb a x) (not (joined (up first) (x ∷ S) a b)) (not_from_false (joined (up first) (x ∷ S) a b) p.apart))));
+        considers = second_considers k v root first x S e (record {
+          usable = h;
+          no_tree = t;
+          start_in = xa;
+          end_in = xb;
+          other = n;
+          parts = inr p.apart;
+        });
       }
 
   -- so it labels its end, at no more than the strike's cost and its reduced cost

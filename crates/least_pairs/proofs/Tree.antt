@@ -1,22 +1,15 @@
 -- The tree that a run leaves: parents, and the sites above a site.
-use Rattle.std.proofs.Common.{◌≡◌, ℕ, ◌+◌, ◌≤◌, true, false, cond, eqb, ◌⊎◌, List, [], ◌∷◌, ◌++◌, Option, sym, refl, ap, ◌∙◌, subst, inl, inr, append_assoc, arith}
-use Rattle.std.proofs.lemmas.Bool.{eq-eqb, ne_eqb, both_ways, cases_Bool, cases_eq, cond-true, cond-false}
+use Rattle.std.proofs.Common.{◌≡◌, ℕ, ◌≤◌, true, false, eqb, ◌⊎◌, List, [], ◌∷◌, ◌++◌, Option, sym, refl, ap, ◌∙◌, subst, inl, inr, append_assoc, arith}
+use Rattle.std.proofs.lemmas.Bool.{eq-eqb, ne_eqb, both_ways, cond-true, cond-false, true_from_ne_false}
 use Rattle.costs.specs.Costs.{Ops}
-use Rattle.costs.specs.Counting.{hit, occurs}
+use Rattle.costs.specs.Counting.{occurs}
 use Rattle.costs.proofs.Counted.{hit_self}
 use Rattle.least_pairs.specs.Runs.{Label, Job, State, has}
 use Rattle.least_pairs.specs.Trees.{turn_of, parent, above}
 use Rattle.least_pairs.specs.Plans.{up}
 use Rattle.least_pairs.specs.Laws.{Moment, RunLaws}
-use Rattle.least_pairs.proofs.Listed.{has_head, has_tail, has_cases, lacks_tail, lacks_head, has_occurs, occurs_has, occurs_lacks, occurs_append, has_right, moment_of}
-
--- a site is in the order that it has a moment in
-pub moment_has : {order : List ℕ} {y : ℕ} {S : List ℕ} → Moment order y S → has y order ≡ true
-moment_has {order} {y} {S} m = subst (λ o. has y o ≡ true) (sym m.whole) (has_right y m.later (y ∷ S) (has_head y S))
-
--- who was settled before a moment is in the order
-pub moment_before : {order : List ℕ} {y : ℕ} {S : List ℕ} → Moment order y S → (x : ℕ) → has x S ≡ true → has x order ≡ true
-moment_before {order} {y} {S} m x h = subst (λ o. has x o ≡ true) (sym m.whole) (has_right x m.later (y ∷ S) (has_tail x y S h))
+use Rattle.least_pairs.proofs.Moments.{moment_has, moment_before}
+use Rattle.least_pairs.proofs.Listed.{has_head, has_tail, has_cases, lacks_tail, lacks_head, has_occurs, occurs_has, occurs_lacks, occurs_append, moment_of}
 
 -- what holds of each that is settled if it holds of all before holds of all in an older part of the order
 pub moment_order : (P : ℕ → Type 0) (order : List ℕ) → ((y : ℕ) (S : List ℕ) → Moment order y S → ((x : ℕ) → has x S ≡ true → P x) → P y) → (front back : List ℕ) → order ≡ front ++ back → (w : ℕ) → has w back ≡ true → P w
@@ -32,16 +25,12 @@ module _ {C : Type 0} (labels : ℕ → Option (Label C)) where
   -- a front of the order without a site does not matter to what is above it
   pub above_skip : (xs ys : List ℕ) (w : ℕ) → has w xs ≡ false → above labels (xs ++ ys) w ≡ above labels ys w
   above_skip [] ys w h = refl
-  above_skip (x ∷ xs) ys w h =
-      cond-false (eqb w x) (x ∷ above labels (xs ++ ys) (parent labels x)) (above labels (xs ++ ys) w) (ne_eqb w x (lacks_head w x xs h))
-      ∙ above_skip xs ys w (lacks_tail w x xs h)
+  above_skip (x ∷ xs) ys w h = grind (arith, lacks_head, lacks_tail, above_skip xs ys w (lacks_tail w x xs h))
 
   -- a site that is not in the order has none above
   pub above_none : (xs : List ℕ) (w : ℕ) → has w xs ≡ false → above labels xs w ≡ []
   above_none [] w h = refl
-  above_none (x ∷ xs) w h =
-      cond-false (eqb w x) (x ∷ above labels xs (parent labels x)) (above labels xs w) (ne_eqb w x (lacks_head w x xs h))
-      ∙ above_none xs w (lacks_tail w x xs h)
+  above_none (x ∷ xs) w h = grind (arith, lacks_head, lacks_tail, above_none xs w (lacks_tail w x xs h))
 
   -- the first of an order is followed by what is above its parent
   pub above_head : (ys : List ℕ) (w : ℕ) → above labels (w ∷ ys) w ≡ w ∷ above labels ys (parent labels w)
@@ -50,11 +39,7 @@ module _ {C : Type 0} (labels : ℕ → Option (Label C)) where
   -- no site is above another more often than it is in the order
   pub above_occurs : (x : ℕ) (xs : List ℕ) (w : ℕ) → occurs x (above labels xs w) ≤ occurs x xs
   above_occurs x [] w = omega arith
-  above_occurs x (y ∷ ys) w =
-      elim (eqb w y) as (λ b. occurs x (cond b (y ∷ above labels ys (parent labels y)) (above labels ys w)) ≤ hit x y + occurs x ys) [
-        | true ↦ omega (arith, above_occurs x ys (parent labels y))
-        | false ↦ omega (arith, above_occurs x ys w)
-      ]
+  above_occurs x (y ∷ ys) w = grind (arith, above_occurs x ys (parent labels y), above_occurs x ys w)
 
 module _ {C : Type 0} {k : Ops C} {j : Job C} {root : ℕ} {s : State C} (run : RunLaws k j root s) where
   -- what holds of each site that is settled if it holds of all before holds of all
@@ -79,10 +64,7 @@ module _ {C : Type 0} {k : Ops C} {j : Job C} {root : ℕ} {s : State C} (run : 
   pub by_parents : (P : ℕ → Type 0) → P root → ((w : ℕ) → has w s.order ≡ true → (w ≡ root → ⊥) → P (parent s.labels w) → P w) → (w : ℕ) → has w s.order ≡ true → P w
   by_parents P base step w h =
       by_order P (λ y S m below.
-      elim (cases_eq y root) [
-        | inl e ↦ subst P (sym e) base
-        | inr n ↦ step y (moment_has m) n (below (parent s.labels y) (parent_earlier y n S m))
-      ]) w h
+      grind (arith, moment_has, parent_earlier)) w h
 
   -- who was settled up to a moment is not settled later
   pub moment_lacks : (y : ℕ) (S : List ℕ) (m : Moment s.order y S) → (x : ℕ) → has x (y ∷ S) ≡ true → has x m.later ≡ false
@@ -131,18 +113,11 @@ module _ {C : Type 0} {k : Ops C} {j : Job C} {root : ℕ} {s : State C} (run : 
   -- who has a site above is settled
   pub up_settled : (x w : ℕ) → has x (up s w) ≡ true → has w s.order ≡ true
   up_settled x w h =
-      elim (cases_Bool (has w s.order)) [
-        | inl t ↦ t
-        | inr f ↦ absurd (both_ways (has x (up s w)) (ap (has x) (up_none w f)) h)
-      ]
+      true_from_ne_false (has w s.order) (λ f. both_ways (has x (up s w)) (ap (has x) (up_none w f)) h)
 
   -- a settled site is above itself
   pub up_self : (w : ℕ) → has w s.order ≡ true → has w (up s w) ≡ true
-  up_self w h =
-      elim (cases_eq w root) [
-        | inl e ↦ subst (λ z. has z (up s z) ≡ true) (sym e) (ap (has root) up_root ∙ has_head root [])
-        | inr n ↦ ap (has w) (up_other w h n) ∙ has_head w (up s (parent s.labels w))
-      ]
+  up_self w h = grind (arith, up_root, has_head, up_other)
 
   -- who is above the parent is above the site
   pub up_more : (x w : ℕ) → has w s.order ≡ true → (w ≡ root → ⊥) → has x (up s (parent s.labels w)) ≡ true → has x (up s w) ≡ true
@@ -150,19 +125,7 @@ module _ {C : Type 0} {k : Ops C} {j : Job C} {root : ℕ} {s : State C} (run : 
 
   -- who is above a site is the site, or above its parent
   pub up_cases : (x w : ℕ) → has x (up s w) ≡ true → (x ≡ w) ⊎ ((w ≡ root → ⊥) × (has x (up s (parent s.labels w)) ≡ true))
-  up_cases x w h =
-      elim (cases_eq w root) [
-        | inl e ↦
-            elim (has_cases x root [] (sym (ap (has x) (ap (up s) e ∙ up_root)) ∙ h)) [
-              | inl q ↦ inl (q ∙ sym e)
-              | inr t ↦ absurd (both_ways false refl t)
-            ]
-        | inr n ↦
-            elim (has_cases x w (up s (parent s.labels w)) (sym (ap (has x) (up_other w (up_settled x w h) n)) ∙ h)) [
-              | inl q ↦ inl q
-              | inr t ↦ inr (n, t)
-            ]
-      ]
+  up_cases x w h = grind (arith, has_cases, up_root, up_other, up_settled)
 
   -- the root is above every settled site
   pub up_has_root : (w : ℕ) → has w s.order ≡ true → has root (up s w) ≡ true
@@ -184,10 +147,7 @@ module _ {C : Type 0} {k : Ops C} {j : Job C} {root : ℕ} {s : State C} (run : 
         | inl e ↦ subst (λ z. has a (up s z) ≡ true) e hab
         | inr t ↦ absurd (t.0 refl)
       ])
-      (λ z hz n ih h. elim (up_cases b z h) [
-        | inl e ↦ subst (λ y. has a (up s y) ≡ true) e hab
-        | inr t ↦ up_more a z hz n (ih t.1)
-      ]) c (up_settled b c hbc) hbc
+      (λ z hz n ih h. grind (arith, up_cases, up_more)) c (up_settled b c hbc) hbc
 
   -- no site is above its parent
   pub up_parent_lacks : (w : ℕ) → has w s.order ≡ true → (w ≡ root → ⊥) → has w (up s (parent s.labels w)) ≡ false

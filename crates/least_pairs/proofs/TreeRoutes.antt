@@ -1,6 +1,6 @@
 -- The tree route of a reached site: a walk from the root over the tree links of the sites above it.
 use Rattle.std.proofs.Common.{◌≡◌, ℕ, ◌+◌, ◌≤◌, true, false, List, [], ◌∷◌, ◌++◌, sym, refl, ap, ◌∙◌, subst, inl, inr, arith}
-use Rattle.std.proofs.lemmas.Bool.{both_ways, cases_eq, cases_Bool}
+use Rattle.std.proofs.lemmas.Bool.{both_ways, cases_eq, false_from_ne_true}
 use Rattle.costs.specs.Costs.{Ops, Laws}
 use Rattle.costs.specs.Counting.{occurs}
 use Rattle.least_pairs.specs.Views.{View}
@@ -18,11 +18,7 @@ use Rattle.least_pairs.proofs.Walks.{walk_append}
 module _ {C : Type 0} {k : Ops C} {j : Job C} {root : ℕ} {first : State C} (run : RunLaws k j root first) where
   -- those above a site begin with it
   pub up_starts : (w : ℕ) → has w first.order ≡ true → (us : List ℕ) × (up first w ≡ w ∷ us)
-  up_starts w h =
-      elim (cases_eq w root) [
-        | inl e ↦ ([], ap (up first) e ∙ up_root run ∙ ap (λ z. z ∷ []) (sym e))
-        | inr n ↦ (up first (parent first.labels w), up_other run w h n)
-      ]
+  up_starts w h = grind (arith, up_root run, up_other run)
 
   -- the root's tree route is empty
   pub tree_route_root : tree_route first (up first root) ≡ []
@@ -30,10 +26,7 @@ module _ {C : Type 0} {k : Ops C} {j : Job C} {root : ℕ} {first : State C} (ru
 
   -- another site's is its parent's and then its tree link
   pub tree_route_other : (w : ℕ) → has w first.order ≡ true → (w ≡ root → ⊥) → tree_route first (up first w) ≡ tree_route first (up first (parent first.labels w)) ++ link_of (first.labels w) ∷ []
-  tree_route_other w h n =
-      let p = up_starts (parent first.labels w) (parent_reached run w h n) in
-      ap (tree_route first) (up_other run w h n ∙ ap (λ us. w ∷ us) p.1)
-      ∙ ap (λ us. tree_route first us ++ link_of (first.labels w) ∷ []) (sym p.1)
+  tree_route_other w h n = grind (arith, up_starts, parent_reached run, up_other run)
 
   -- the tree link of a site above is on the tree route
   pub tree_route_has : (x w : ℕ) → has x (up first w) ≡ true → (x ≡ root → ⊥) → has (link_of (first.labels x)) (tree_route first (up first w)) ≡ true
@@ -59,10 +52,7 @@ module _ {C : Type 0} {k : Ops C} {j : Job C} {root : ℕ} {first : State C} (ru
       elim (has_append e front (link_of (first.labels y) ∷ []) (sym (ap (has e) (tree_route_other y hy n)) ∙ g)) [
         | inl q ↦ let p = ih q in (p.0, up_more run p.0 y hy n p.1, p.2, p.3)
         | inr q ↦
-            elim (has_cases e (link_of (first.labels y)) [] q) [
-              | inl d ↦ (y, up_self run y hy, n, d)
-              | inr d ↦ absurd (both_ways false refl d)
-            ]
+            grind (arith, has_cases, up_self run)
       ]) w r h
 
 module _ {C : Type 0} {k : Ops C} {v : View C} {root : ℕ} {first : State C} (laws : Laws k) (sound : SoundView k v) (run : RunLaws k (first_job v) root first) where
@@ -72,10 +62,7 @@ module _ {C : Type 0} {k : Ops C} {v : View C} {root : ℕ} {first : State C} (l
       by_parents run (λ y. Walk v root (tree_route first (up first y)) y)
       (subst (λ es. Walk v root es root) (sym (tree_route_root run)) refl)
       (λ y hy n ih.
-      let t = tree_link_of laws sound run y hy n in
-      let p = parent first.labels y in
-      subst (λ es. Walk v root es y) (sym (tree_route_other run y hy n))
-      (walk_append v (tree_route first (up first p)) (link_of (first.labels y) ∷ []) root p y ih (t.usable, t.starts, t.ends))) w h
+      grind (arith, tree_link_of laws sound run, tree_route_other run, walk_append v)) w h
 
   -- the tree route uses no link twice
   pub tree_route_once : (w : ℕ) → has w first.order ≡ true → (e : ℕ) → occurs e (tree_route first (up first w)) ≤ 1
@@ -88,16 +75,10 @@ module _ {C : Type 0} {k : Ops C} {v : View C} {root : ℕ} {first : State C} (l
       let front = tree_route first (up first p) in
       let whole : occurs e (tree_route first (up first y)) ≡ occurs e front + occurs e (d ∷ []) = ap (occurs e) (tree_route_other run y hy n) ∙ occurs_append e front (d ∷ []) in
       let off : has d front ≡ false =
-      elim (cases_Bool (has d front)) [
-        | inl t ↦
-            let x = tree_route_from run d p (parent_reached run y hy n) t in
-            let same : x.0 ≡ y =
-            sym (tree_link_of laws sound run x.0 (up_reached run x.0 p x.1) x.2).ends
-            ∙ ap v.end (sym x.3)
-            ∙ (tree_link_of laws sound run y hy n).ends in
-            absurd (both_ways (has y (up first p)) (up_parent_lacks run y hy n) (subst (λ u. has u (up first p) ≡ true) same x.1))
-        | inr f ↦ f
-      ] in
+      false_from_ne_true (has d front) (λ t. let x = tree_route_from run d p (parent_reached run y hy n) t in
+      let same : x.0 ≡ y =
+      grind (arith, tree_link_of laws sound run, up_reached run) in
+      both_ways (has y (up first p)) (up_parent_lacks run y hy n) (subst (λ u. has u (up first p) ≡ true) same x.1)) in
       single front d off ih whole) w h
     where
       single : (front : List ℕ) (d : ℕ) {n : ℕ} → has d front ≡ false → occurs e front ≤ 1 → n ≡ occurs e front + occurs e (d ∷ []) → n ≤ 1

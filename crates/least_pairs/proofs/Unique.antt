@@ -3,11 +3,11 @@ use Rattle.std.proofs.Common.{◌≡◌, ℕ, ◌<◌, ◌≤◌, true, false, �
 use Rattle.std.proofs.lemmas.Bool.{both_ways, cases_eq}
 use Rattle.costs.specs.Costs.{Ops, Laws, Le}
 use Rattle.costs.proofs.Order.{le_same, le_trans, le_antisym}
-use Rattle.least_pairs.specs.Runs.{Label, Job, State, has, outcome}
+use Rattle.least_pairs.specs.Runs.{Label, Job, State, has}
 use Rattle.least_pairs.specs.Laws.{Moment, Considered, RunLaws, Same}
-use Rattle.least_pairs.proofs.Moments.{has_cases, moment_has, moment_before}
-use Rattle.least_pairs.proofs.Running.{SoundJob, one_label}
-use Rattle.least_pairs.proofs.Finishing.{run_laws}
+use Rattle.least_pairs.proofs.Options.{some_none, some_same}
+use Rattle.least_pairs.proofs.Listed.{has_cases}
+use Rattle.least_pairs.proofs.Moments.{moment_has, moment_before}
 use Rattle.least_pairs.proofs.Older.{Older, older_none, older_all, older_moment, moment_older, older_before, older_has, older_outward, older_inward, moment_once, moment_one, older_next, older_both}
 
 -- sites of a list cost the same in two states
@@ -66,7 +66,7 @@ module _ {C : Type 0} {k : Ops C} (laws : Laws k) (j : Job C) (root : ℕ) where
         | inl q ↦
             let g = b.offers o.turn o.before o.over o.considered o.label o.labelled in
             let there : t.labels (j.end o.over) ≡ Some m = subst (λ x. t.labels x ≡ Some m) (q ∙ sym o.ends) is in
-            let one : g.0 ≡ m = one_label g.1 there in
+            let one : g.0 ≡ m = some_same g.1 there in
             (le_trans laws (subst (λ x. Le k x.cost (k.plus o.label.cost (j.adds o.over))) one g.2) (le_same laws (sym o.costs)), λ ne. absurd (ne q))
         | inr ne ↦
             let g = b.chosen z part m moment is o.turn o.before o.over o.label o.considered o.inside o.labelled (λ e. ne (sym e ∙ o.ends)) (λ h. out (subst (λ x. has x part ≡ true) o.ends h)) in
@@ -94,9 +94,7 @@ module _ {C : Type 0} {k : Ops C} (laws : Laws k) (j : Job C) (root : ℕ) where
       elim (cases_eq y z) [
         | inl q ↦ (q, equal)
         | inr ne ↦
-            let less : z < y = one.1 (λ q. ne (sym q)) (sym equal) in
-            let more : y < z = two.1 ne equal in
-            absurd (omega arith)
+            grind (arith)
       ]
 
   -- two runs that agree so far settle the same site next, at the same cost
@@ -106,9 +104,7 @@ module _ {C : Type 0} {k : Ops C} (laws : Laws k) (j : Job C) (root : ℕ) where
         | inl p ↦
             elim (cases_eq z root) [
               | inl q ↦
-                  let l_root : s.labels root ≡ Some l = subst (λ x. s.labels x ≡ Some l) p l_is in
-                  let m_root : t.labels root ≡ Some m = subst (λ x. t.labels x ≡ Some m) q m_is in
-                  (p ∙ sym q, root_cost s a l l_root ∙ sym (root_cost t b m m_root))
+                  grind (arith)
               | inr q ↦ absurd (other_later t b z (subst (λ x. Moment t.order z x) (root_alone s a part y y_moment p) z_moment) q)
             ]
         | inr p ↦
@@ -119,10 +115,7 @@ module _ {C : Type 0} {k : Ops C} (laws : Laws k) (j : Job C) (root : ℕ) where
       ]
     where
       root_cost : (u : State C) → RunLaws k j root u → (n : Label C) → u.labels root ≡ Some n → n.cost ≡ k.zero
-      root_cost u h n is =
-          let first : u.labels root ≡ Some (record { cost = k.zero; link = 0; turn = root }) = h.root_label in
-          let one : n ≡ record { cost = k.zero; link = 0; turn = root } = cc in
-          ap (λ x. x.cost) one
+      root_cost u h n is = ap (λ x. x.cost) (some_same is h.root_label)
 
   -- one run does not end where another goes on
   goes_on : (s t : State C) → RunLaws k j root s → RunLaws k j root t → (part : List ℕ) → Older t.order part → EqualCosts s t part → (y : ℕ) → Moment s.order y part → t.order ≡ part → ⊥
@@ -149,10 +142,7 @@ module _ {C : Type 0} {k : Ops C} (laws : Laws k) (j : Job C) (root : ℕ) where
             record {
               older = older_moment (subst (λ x. Moment t.order x part) (sym n.0) z.1);
               costs = λ w in_more f g f_is g_is.
-                  elim (has_cases w y part in_more) [
-                    | inl q ↦ (next_same s t a b part h.older h.costs y z.0 moment z.1 f g (subst (λ x. s.labels x ≡ Some f) q f_is) (subst (λ x. t.labels x ≡ Some g) (q ∙ n.0) g_is)).1
-                    | inr in_part ↦ h.costs w in_part f g f_is g_is
-                  ];
+                  grind (arith, has_cases, next_same, h.costs);
             }
       ]
 
@@ -202,23 +192,14 @@ module _ {C : Type 0} {k : Ops C} (laws : Laws k) (j : Job C) (root : ℕ) where
 
   -- a site that has no label in one run has none in the other
   no_label : (s t : State C) → RunLaws k j root s → RunLaws k j root t → (w : ℕ) (m : Label C) → s.labels w ≡ None → t.labels w ≡ Some m → ⊥
-  no_label s t a b w m none is =
-      let l = a.has_label w (subst (λ x. has w x ≡ true) (sym (orders_same s t a b)) (b.is_settled w m is)) in
-      refute l.0 none l.1
-    where
-      refute : {o : Option (Label C)} (l : Label C) → o ≡ None → o ≡ Some l → ⊥
-      refute l p q = let z : ◌≡◌ {A = ℕ} 0 1 = cc in omega arith
+  no_label s t a b w m none is = grind (arith, orders_same, some_none)
 
   -- the labels of a site in two runs are one, or it has none in either
   labels_agree : (s t : State C) → RunLaws k j root s → RunLaws k j root t → (w : ℕ) (o p : Option (Label C)) → s.labels w ≡ o → t.labels w ≡ p → o ≡ p
   labels_agree s t a b w None None e f = refl
   labels_agree s t a b w None (Some m) e f = absurd (no_label s t a b w m e f)
   labels_agree s t a b w (Some l) None e f = absurd (no_label t s b a w l f e)
-  labels_agree s t a b w (Some l) (Some m) e f =
-      elim (cases_eq w root) [
-        | inl q ↦ sym e ∙ ap s.labels q ∙ a.root_label ∙ sym b.root_label ∙ ap t.labels (sym q) ∙ f
-        | inr other ↦ ap Some (labels_same s t a b w l m other e f)
-      ]
+  labels_agree s t a b w (Some l) (Some m) e f = grind (arith, labels_same)
 
 -- the laws determine the outcome
 pub laws_determine : {C : Type 0} {k : Ops C} {j : Job C} {root : ℕ} → Laws k → (s t : State C) → RunLaws k j root s → RunLaws k j root t → Same s t
@@ -226,7 +207,3 @@ laws_determine {C} {k} {j} {root} laws s t a b = record {
   order = orders_same laws j root s t a b;
   labels = λ w. labels_agree laws j root s t a b w (s.labels w) (t.labels w) refl refl;
 }
-
--- a state that keeps the laws of a sound run is its outcome
-pub laws_give_outcome : {C : Type 0} {k : Ops C} {j : Job C} {root : ℕ} → Laws k → SoundJob k j root → (s : State C) → RunLaws k j root s → Same s (outcome k j root)
-laws_give_outcome {C} {k} {j} {root} laws sound s a = laws_determine laws s (outcome k j root) a (run_laws laws sound)

@@ -1,57 +1,19 @@
 -- Walks back over a balanced list of links: they end at the root, use links of the list, and none twice.
-use Rattle.std.proofs.Common.{◌≡◌, ℕ, zero, suc, ◌+◌, ◌<◌, ◌≤◌, true, false, cond, eqb, ◌⊎◌, List, [], ◌∷◌, ◌++◌, map, length, sym, refl, ap, ◌∙◌, subst, inl, inr, arith}
-use Rattle.std.proofs.lemmas.Bool.{or_left, eq-eqb, ne_eqb, eqb-true, eqb-false, both_ways, cases_Bool, cases_eq, cond_both, cond-true, cond-false}
+use Rattle.std.proofs.Common.{◌≡◌, ℕ, zero, suc, ◌+◌, ◌≤◌, true, false, cond, eqb, ◌⊎◌, List, [], ◌∷◌, ◌++◌, map, length, sym, refl, ap, ◌∙◌, subst, inl, inr, arith}
+use Rattle.std.proofs.lemmas.Bool.{or_left, eq-eqb, eqb-true, eqb-false, both_ways, cases_eq, cond_both}
 use Rattle.costs.specs.Costs.{Ops, Laws, Le, total}
 use Rattle.costs.specs.Counting.{hit, occurs}
 use Rattle.costs.proofs.Counted.{without, hit_self, occurs_without, total_part}
 use Rattle.costs.proofs.Order.{le_trans, le_same}
 use Rattle.costs.proofs.Totals.{total_append}
-use Rattle.std.specs.List.{AllByRecursion as All}
 use Rattle.least_pairs.specs.Views.{View}
 use Rattle.least_pairs.specs.Routes.{Walk, Pair, pair_cost}
 use Rattle.least_pairs.specs.Runs.{State, has}
 use Rattle.least_pairs.specs.Plans.{link_of, wiped, walk_back, marks, pair_read}
 use Rattle.least_pairs.proofs.Sight.{SoundView}
-use Rattle.least_pairs.proofs.Listed.{has_tail, has_cases, has_occurs, lacks_occurs, occurs_append}
-
--- a list is one longer than with one of its numbers left out
-pub length_without : (x : ℕ) (ys : List ℕ) → 1 ≤ occurs x ys → length ys ≡ suc (length (without x ys))
-length_without x [] h = absurd (omega arith)
-length_without x (y ∷ ys) h =
-    (elim (eqb x y) as (λ b. eqb x y ≡ b → suc (length ys) ≡ suc (length (cond b ys (y ∷ without x ys)))) [
-      | true ↦ λ t. refl
-      | false ↦ λ t.
-          let missed : hit x y ≡ 0 = ap (λ b. cond b 1 0) t in
-          let more : 1 ≤ occurs x ys = omega arith in
-          ap suc (length_without x ys more)
-    ]) refl
-
--- what is in a list without one of its numbers is in the list
-pub occurs_in_without : (e x : ℕ) (ys : List ℕ) → 1 ≤ occurs x ys → 1 ≤ occurs e (without x ys) → 1 ≤ occurs e ys
-occurs_in_without e x ys h g = omega (arith, occurs_without e x ys h)
-
--- a list of numbers below a bound, none twice, is no longer than the bound
-pub few : (n : ℕ) (xs : List ℕ) → ((e : ℕ) → occurs e xs ≤ 1) → ((e : ℕ) → 1 ≤ occurs e xs → e < n) → length xs ≤ n
-few zero [] once below = omega arith
-few zero (x ∷ xs) once below = absurd (omega (arith, below x (omega (arith, hit_self x))))
-few (suc n) xs once below =
-    elim (cases_Bool (has n xs)) [
-      | inl t ↦
-          let one : 1 ≤ occurs n xs = has_occurs n xs t in
-          let rest : length (without n xs) ≤ n = few n (without n xs)
-          (λ e. omega (arith, once e, occurs_without e n xs one))
-          (λ e h. elim (cases_eq e n) [
-            | inl s ↦ absurd (omega (arith, subst (λ z. 1 ≤ occurs z (without n xs)) s h, once n, occurs_without n n xs one, hit_self n))
-            | inr d ↦ omega (arith, below e (occurs_in_without e n xs one h))
-          ]) in
-          omega (arith, length_without n xs one)
-      | inr f ↦
-          let rest : length xs ≤ n = few n xs once (λ e h. elim (cases_eq e n) [
-            | inl s ↦ absurd (omega (arith, subst (λ z. 1 ≤ occurs z xs) s h, lacks_occurs n xs f))
-            | inr d ↦ omega (arith, below e h)
-          ]) in
-          omega arith
-    ]
+use Rattle.least_pairs.proofs.Listed.{has_tail, has_cases, has_occurs, hit_other, occurs_append}
+use Rattle.least_pairs.proofs.Moments.{length_without, occurs_in_without, few}
+use Rattle.least_pairs.proofs.Walks.{all_has}
 
 -- leaving a number out of a list leaves its image out of the list of images
 pub occurs_map_without : (f : ℕ → ℕ) (w x : ℕ) (ys : List ℕ) → 1 ≤ occurs x ys → occurs w (map f ys) ≡ hit w (f x) + occurs w (map f (without x ys))
@@ -72,8 +34,7 @@ occurs_map_from f w (y ∷ ys) h =
     elim (cases_eq w (f y)) [
       | inl s ↦ (y, omega (arith, hit_self y), sym s)
       | inr d ↦
-          let missed : hit w (f y) ≡ 0 = ap (λ b. cond b 1 0) (ne_eqb w (f y) d) in
-          let p = occurs_map_from f w ys (omega arith) in
+          let p = occurs_map_from f w ys (omega (arith, hit_other w (f y) d)) in
           (p.0, omega (arith, p.1), p.2)
     ]
 
@@ -125,24 +86,11 @@ module _ {C : Type 0} (v : View C) (first second : State C) (root : ℕ) (others
 
   -- at a site other than the root some link that is left ends there
   arrives : (w : ℕ) (ms F : List ℕ) → Left v first second root others roots w ms F → (w ≡ root → ⊥) → 1 ≤ occurs w (map v.end F)
-  arrives w ms F l d =
-      let missed : hit w root ≡ 0 = ap (λ b. cond b 1 0) (ne_eqb w root d) in
-      omega (arith, l.balance w, away w d, hit_self w)
+  arrives w ms F l d = omega (arith, hit_other w root d, l.balance w, away w d, hit_self w)
 
   -- the link taken back is left, and ends at the site
   picked : (w : ℕ) (ms F : List ℕ) → Left v first second root others roots w ms F → (w ≡ root → ⊥) → (1 ≤ occurs (over w ms) F) × (v.end (over w ms) ≡ w)
-  picked w ms F l d =
-      elim (cases_Bool (has w ms)) [
-        | inl t ↦ subst (λ o. (1 ≤ occurs o F) × (v.end o ≡ w)) (sym (cond-true (has w ms) (link_of (second.labels w)) (link_of (first.labels w)) t)) (l.marked w t)
-        | inr f ↦
-            let p = occurs_map_from v.end w F (arrives w ms F l d) in
-            elim (l.kinds p.0 p.1) [
-              | inl e ↦ absurd (both_ways (has w ms) f (subst (λ z. has z ms ≡ true) p.2 e.1))
-              | inr e ↦
-                  let is : p.0 ≡ over w ms = e ∙ ap (λ z. link_of (first.labels z)) p.2 ∙ sym (cond-false (has w ms) (link_of (second.labels w)) (link_of (first.labels w)) f) in
-                  subst (λ o. (1 ≤ occurs o F) × (v.end o ≡ w)) is (p.1, p.2)
-            ]
-      ]
+  picked w ms F l d = grind (arith, occurs_map_from, arrives)
 
   -- with that link taken and the site wiped, the rest is left to walk from the link's start
   stepped : (w : ℕ) (ms F : List ℕ) → Left v first second root others roots w ms F → (1 ≤ occurs (over w ms) F) → (v.end (over w ms) ≡ w) → Left v first second root others roots (v.start (over w ms)) (wiped w ms) (without (over w ms) F)
@@ -155,20 +103,9 @@ module _ {C : Type 0} (v : View C) (first second : State C) (root : ℕ) (others
             omega (arith, l.balance x, occurs_map_without v.start x o F one, occurs_map_without v.end x o F one);
         once = λ e. omega (arith, l.once e, occurs_without e o F one);
         marked = λ x h.
-            let p = wiped_has x w ms h in
-            let q = l.marked x p.1 in
-            let other : hit (link_of (second.labels x)) o ≡ 0 = ap (λ b. cond b 1 0) (ne_eqb (link_of (second.labels x)) o (λ s. p.0 (sym q.1 ∙ ap v.end s ∙ lands))) in
-            (omega (arith, q.0, occurs_without (link_of (second.labels x)) o F one), q.1);
+            grind (arith, wiped_has, hit_other, occurs_without, l.marked);
         kinds = λ e h.
-            elim (l.kinds e (occurs_in_without e o F one h)) [
-              | inl p ↦ elim (cases_eq (v.end e) w) [
-                | inl s ↦
-                    let taken : o ≡ e = cond-true (has w ms) (link_of (second.labels w)) (link_of (first.labels w)) (subst (λ z. has z ms ≡ true) s p.1) ∙ ap (λ z. link_of (second.labels z)) (sym s) ∙ sym p.0 in
-                    absurd (omega (arith, subst (λ z. 1 ≤ occurs z (without o F)) (sym taken) h))
-                | inr d ↦ inl (p.0, has_wiped (v.end e) w ms d p.1)
-              ]
-              | inr p ↦ inr p
-            ];
+            grind (arith, occurs_in_without, has_wiped, l.kinds);
         usable = λ e h. l.usable e (occurs_in_without e o F one h);
       }
 
@@ -191,11 +128,6 @@ module _ {C : Type 0} (v : View C) (first second : State C) (root : ℕ) (others
       let r = walked target n (v.start o) (wiped w ms) (o ∷ es) (without o F) shorter (stepped w ms F l p.0 p.1) onward in
       record { left = r.left; leads = r.leads; still = r.still; counted = λ e. omega (arith, r.counted e, occurs_without e o F p.0) })
 
--- what holds of all that occur in a list holds of each in it
-pub all_occurring : (P : ℕ → Type 0) (xs : List ℕ) → ((e : ℕ) → 1 ≤ occurs e xs → P e) → All P xs
-all_occurring P [] h = tt
-all_occurring P (x ∷ xs) h = (h x (omega (arith, hit_self x)), all_occurring P xs (λ e g. h e (omega (arith, g))))
-
 -- a walk that leads to another site has a link
 walk_some : {C : Type 0} (v : View C) (root target : ℕ) (es : List ℕ) → (target ≡ root → ⊥) → Walk v root es target → 1 ≤ length es
 walk_some v root target [] d leads = absurd (d (sym leads))
@@ -208,7 +140,7 @@ FlowOfTwo v first second root target F = Left v first second root (target ∷ []
 module _ {C : Type 0} {k : Ops C} (laws : Laws k) (v : View C) (sound : SoundView k v) (first second : State C) (root target : ℕ) (apart : target ≡ root → ⊥) (F : List ℕ) (flow : FlowOfTwo v first second root target F) where
   -- a site that is not the root is not among the roots
   not_root : (x : ℕ) → (x ≡ root → ⊥) → occurs x (root ∷ []) ≡ 0
-  not_root x d = let missed : hit x root ≡ 0 = ap (λ b. cond b 1 0) (ne_eqb x root d) in omega arith
+  not_root x d = omega (arith, hit_other x root d)
 
   -- the first walk back
   one : Walked v first second root target (target ∷ []) (root ∷ []) [] F (walk_back v first second root v.links target (marks second.labels root second.order target) [])
@@ -252,4 +184,4 @@ module _ {C : Type 0} {k : Ops C} (laws : Laws k) (v : View C) (sound : SoundVie
       let a = (pair_read v first second root target).0 in
       let b = (pair_read v first second root target).1 in
       le_trans laws (le_same laws (sym (total_append laws v.cost a b)))
-      (total_part laws v.cost (a ++ b) F (λ e. omega (arith, walks_within e, occurs_append e a b)) (all_occurring (λ e. Le k k.zero (v.cost e)) F (λ e h. sound.least e (flow.usable e h))))
+      (total_part laws v.cost (a ++ b) F (λ e. omega (arith, walks_within e, occurs_append e a b)) (all_has F (λ e h. sound.least e (flow.usable e (has_occurs e F h)))))

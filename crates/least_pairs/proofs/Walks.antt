@@ -73,9 +73,7 @@ module _ {C : Type 0} {k : Ops C} (laws : Laws k) (v : View C) where
 
   -- what a walk costs: the rise of the distances and the reduced costs
   pub total_reduced : (first : State C) (xs : List ℕ) (a b : ℕ) → Walk v a xs b → total k v.cost xs ≡ k.plus (k.plus (cost_of k (first.labels b)) (k.negation (cost_of k (first.labels a)))) (total k (reduced k v first) xs)
-  total_reduced first [] a b w =
-      sym (ap (λ z. k.plus (k.plus (cost_of k (first.labels b)) (k.negation (cost_of k (first.labels z)))) k.zero) w
-      ∙ group laws (cost_of k (first.labels b) ∷ []) (search quoting depth 12) tt)
+  total_reduced first [] a b w = grind (arith)
   total_reduced first (x ∷ xs) a b w =
       let rest = total k (reduced k v first) xs in
       let da = cost_of k (first.labels a) in

@@ -21,17 +21,17 @@ fn print_outcome(rt: &HostRuntime, bytes: &[u8]) -> anyhow::Result<()> {
     }
 }
 
-fn made(rt: &HostRuntime, sample: Sample) -> anyhow::Result<Vec<u8>> {
-    match sample.bytes(rt.alloc()) {
-        Ok(bytes) => Ok(bytes),
-        Err(WriteFault::Memory) => Err(anyhow!("no memory for a sample")),
-        Err(WriteFault::TooLong) => Err(anyhow!("a record of a sample is too long")),
+// What is said of a sample that is not made.
+fn said(fault: WriteFault) -> anyhow::Error {
+    match fault {
+        WriteFault::Memory => anyhow!("no memory for a sample"),
+        WriteFault::TooLong => anyhow!("a record of a sample is too long"),
     }
 }
 
 fn compare(rt: &HostRuntime, sample: Sample) -> anyhow::Result<()> {
     let name = sample.file_name();
-    let bytes = made(rt, sample)?;
+    let bytes = sample.bytes(rt.alloc()).map_err(said)?;
     let stored = fs::read(rt, name)?;
     let count = bytes.len();
     if stored.as_slice() == bytes.as_slice() {
@@ -44,7 +44,7 @@ fn compare(rt: &HostRuntime, sample: Sample) -> anyhow::Result<()> {
 
 fn write(rt: &HostRuntime, sample: Sample) -> anyhow::Result<()> {
     let name = sample.file_name();
-    let bytes = made(rt, sample)?;
+    let bytes = sample.bytes(rt.alloc()).map_err(said)?;
     fs::write(rt, name, bytes.as_slice())?;
     println!(rt; "{name} written")?;
     Ok(())
@@ -53,10 +53,8 @@ fn write(rt: &HostRuntime, sample: Sample) -> anyhow::Result<()> {
 fn run(rt: &HostRuntime) -> anyhow::Result<()> {
     let mut words = env::args(rt)?;
     let _program = words.next();
-    let writes = match words.next() {
-        Some(word) => word.as_str() == "write",
-        None => false,
-    };
+    let writes = words.next().is_some_and(|word| word.as_str() == "write");
+    // Asked at each sample: two loops would differ in the call alone.
     for sample in Sample::ALL {
         if writes {
             write(rt, sample)?;

@@ -29,8 +29,7 @@ impl<'a> Marks for Bytes<'a> {
     }
 
     fn is_marked(&self, site: u16) -> bool {
-        let at = site as usize;
-        at < self.room() && self.bytes[at] != 0
+        self.bytes.get(site as usize).is_some_and(|byte| *byte != 0)
     }
 
     fn mark(&mut self, site: u16) {
@@ -38,6 +37,7 @@ impl<'a> Marks for Bytes<'a> {
     }
 
     fn wipe(&mut self, site: u16) {
+        // By its place: what a write through `get_mut` leaves in a lent table gets no proof.
         let at = site as usize;
         if at < self.room() {
             self.bytes[at] = 0;

@@ -1,5 +1,5 @@
 //! The smallest grid written out, and the limits of a grid.
-use grids::street_grid;
+use grids::{GridPlan, street_grid};
 use networks::building::BuildRefusal;
 use networks::network::Network;
 use std::test::Fail;
@@ -32,31 +32,46 @@ const REFUSED: [(u16, u16, u32, u32, u16); 10] = [
 
 #[test]
 fn two_by_two(rt: HostRuntime) -> Result<(), Fail> {
-    let grid = street_grid(rt.alloc(), 2, 2, 100, 200, 3)?;
+    let plan = GridPlan {
+        columns: 2,
+        rows: 2,
+        along: 100,
+        across: 200,
+        channels: 3,
+    };
+    let grid = street_grid(rt.alloc(), plan)?;
     assert_eq!(rt; grid.sites(), 4);
     assert_eq!(rt; grid.links(), 8);
-    let mut k: u16 = 0;
-    for link in SMALLEST {
-        let (start, end, metres) = link;
+    for (k, (start, end, metres)) in (0..grid.links()).zip(SMALLEST) {
         assert_eq!(rt; grid.ends(k)?, (start, end));
         assert_eq!(rt; grid.lengths(k)?, (metres, 0));
         assert_eq!(rt; grid.channels(k)?, (3, 0));
         assert!(rt; grid.is_lit(k)?);
-        k = k.saturating_add(1);
     }
     Ok(())
 }
 
 #[test]
 fn limits(rt: HostRuntime) -> Result<(), Fail> {
-    for plan in REFUSED {
-        let (columns, rows, along, across, channels) = plan;
-        match street_grid(rt.alloc(), columns, rows, along, across, channels) {
-            Ok(_) => assert!(rt; false),
-            Err(refusal) => assert_eq!(rt; refusal, BuildRefusal::OutsideLimits),
-        }
+    for (columns, rows, along, across, channels) in REFUSED {
+        let plan = GridPlan {
+            columns,
+            rows,
+            along,
+            across,
+            channels,
+        };
+        let refusal = street_grid(rt.alloc(), plan).err();
+        assert_eq!(rt; refusal, Some(BuildRefusal::OutsideLimits));
     }
-    let largest = street_grid(rt.alloc(), 16, 16, 1_000_000, 1, 255)?;
+    let plan = GridPlan {
+        columns: 16,
+        rows: 16,
+        along: 1_000_000,
+        across: 1,
+        channels: 255,
+    };
+    let largest = street_grid(rt.alloc(), plan)?;
     assert_eq!(rt; largest.sites(), 256);
     assert_eq!(rt; largest.links(), 960);
     Ok(())

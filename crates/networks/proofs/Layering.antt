@@ -1,30 +1,16 @@
 -- What a layer shows: every link changed by its number, channels taken left alone. Its answers, takes and gives follow from those below.
-use Rattle.std.proofs.Common.{◌≡◌, ℕ, ◌+◌, ◌-◌, ◌<◌, ◌≤◌, Bool, true, false, cond, not, ◌&&◌, eqb, ltb, length, is_ok, Ok, Err, sym, refl, ap, ◌∙◌, subst, arith, ltb-true, le-ltb, lt-ltb}
-use Rattle.std.proofs.lemmas.Bool.{cond-true, cond-false}
+use Rattle.std.proofs.Common.{tests, ◌≡◌, ℕ, ◌+◌, ◌-◌, ◌<◌, ◌≤◌, Bool, true, false, cond, eqb, ltb, length, is_ok, Ok, Err, sym, refl, ap, ◌∙◌, subst, arith}
 use Rattle.networks.specs.declared.model.Link.{Link}
 use Rattle.networks.specs.declared.model.NetworkRefusal.{NetworkRefusal}
 use Rattle.networks.specs.declared.model.NetworkRefusal.TheVariants.{LinkTooHigh, NotUsable, NoneTaken}
 use Rattle.networks.specs.Meaning.{Net, Sound, link_at, link_sound, usable}
-use Rattle.networks.specs.Changing.{changed, only, retaken, dimmed, cleared}
+use Rattle.networks.specs.Changing.{changed, only, retaken, cleared}
 use Rattle.networks.specs.Telling.{told, take_answer, take_after, give_answer, give_after}
 use Rattle.networks.proofs.Numbering.{length_numbered, link_at_changed, numbered_swap, all_sound_numbered}
 
-and_true : (b : Bool) → (b && true) ≡ b
-and_true true = refl
-and_true false = refl
-
-and_false : (b : Bool) → (b && false) ≡ false
-and_false true = refl
-and_false false = refl
-
 -- what is answered of a link, where it is below the count or not
 answer_changed : {A : Type 0} (f : ℕ → Link → Link) (n : Net) (k : ℕ) (g h : Link → A) (e : A) → (k < length n.links → g (f k (link_at n k)) ≡ h (link_at n k)) → cond (ltb k (length (changed f n).links)) (g (link_at (changed f n) k)) e ≡ cond (ltb k (length n.links)) (h (link_at n k)) e
-answer_changed f n k g h e same =
-    ap (λ m. cond (ltb k m) (g (link_at (changed f n) k)) e) (length_numbered f 0 n.links)
-    ∙ (elim (ltb k (length n.links)) as (λ t. ltb k (length n.links) ≡ t → cond t (g (link_at (changed f n) k)) e ≡ cond t (h (link_at n k)) e) [
-      | true ↦ λ q. let inside = ltb-true k (length n.links) q in ap g (link_at_changed f n k inside) ∙ same inside
-      | false ↦ λ q. refl
-    ]) refl
+answer_changed f n k g h e same = grind (arith, tests, length_numbered f 0 n.links, link_at_changed f n k)
 
 -- a layer tells of a link what lies below, changed
 pub told_changed : {A : Type 0} (f : ℕ → Link → Link) (g : Link → A) (n : Net) (k : ℕ) → told g (changed f n) k ≡ told (λ l. g (f k l)) n k
@@ -40,20 +26,6 @@ sound_changed f n keeps s =
       each_link = all_sound_numbered f n.sites keeps 0 n.links s.each_link;
     }
 
--- a link number too high below is too high above
-pub take_too_high : (n : Net) (k : ℕ) → length n.links ≤ k → take_answer n k ≡ Err LinkTooHigh
-take_too_high n k h = cond-false (ltb k (length n.links)) (cond (usable (link_at n k)) (Ok tt) (Err NotUsable)) (Err LinkTooHigh) (le-ltb k (length n.links) h)
-
--- a link that is not usable is not taken
-pub take_not_usable : (n : Net) (k : ℕ) → k < length n.links → usable (link_at n k) ≡ false → take_answer n k ≡ Err NotUsable
-take_not_usable n k h u =
-    cond-true (ltb k (length n.links)) (cond (usable (link_at n k)) (Ok tt) (Err NotUsable)) (Err LinkTooHigh) (lt-ltb k (length n.links) h)
-    ∙ cond-false (usable (link_at n k)) (Ok tt) (Err NotUsable) u
-
--- what a refused take leaves
-pub refused_take : (n : Net) (k : ℕ) (e : NetworkRefusal) → take_answer n k ≡ Err e → take_after n k ≡ n
-refused_take n k e h = ap (λ a. cond (is_ok a) (changed (only k (retaken (λ t. t + 1))) n) n) h
-
 -- what a refused give leaves
 pub refused_give : (n : Net) (k : ℕ) (e : NetworkRefusal) → give_answer n k ≡ Err e → give_after n k ≡ n
 refused_give n k e h = ap (λ a. cond (is_ok a) (changed (only k (retaken (λ t. t - 1))) n) n) h
@@ -66,6 +38,11 @@ module _ (f : ℕ → Link → Link) (commutes : (g : ℕ → ℕ) (j : ℕ) (l 
       let each : (j : ℕ) (l : Link) → only k (retaken g) j (f j l) ≡ f j (only k (retaken g) j l) =
       λ j l. elim (eqb j k) as (λ b. cond b (retaken g (f j l)) (f j l) ≡ f j (cond b (retaken g l) l)) [ true ↦ sym (commutes g j l) | false ↦ refl ] in
       ap (λ ls. record { sites = n.sites; links = ls }) (numbered_swap (only k (retaken g)) f each 0 n.links)
+
+  -- what is left where a take or give was accepted, and where it was refused
+  after_passed : (g : ℕ → ℕ) (k : ℕ) (n : Net) (ok : Bool) → cond ok (changed (only k (retaken g)) (changed f n)) (changed f n) ≡ changed f (cond ok (changed (only k (retaken g)) n) n)
+  after_passed g k n true = only_changed g k n
+  after_passed g k n false = refl
 
   -- networks alike but for channels taken look so through the layer
   pub alike_changed : (a b : Net) → cleared a ≡ cleared b → cleared (changed f a) ≡ cleared (changed f b)
@@ -80,9 +57,7 @@ module _ (f : ℕ → Link → Link) (commutes : (g : ℕ → ℕ) (j : ℕ) (l 
       let answer : take_answer (changed f n) k ≡ take_answer n k =
       answer_changed f n k (λ l. cond (usable l) (Ok tt) (Err NotUsable)) (λ l. cond (usable l) (Ok tt) (Err NotUsable)) (Err LinkTooHigh) (λ inside. ap (λ u. cond u (Ok tt) (Err NotUsable)) (same inside)) in
       let after : take_after (changed f n) k ≡ changed f (take_after n k) =
-      ap (λ a. cond (is_ok a) (changed (only k (retaken (λ t. t + 1))) (changed f n)) (changed f n)) answer
-      ∙ ap (λ m. cond (is_ok (take_answer n k)) m (changed f n)) (only_changed (λ t. t + 1) k n)
-      ∙ (elim (is_ok (take_answer n k)) as (λ b. cond b (changed f (changed (only k (retaken (λ t. t + 1))) n)) (changed f n) ≡ changed f (cond b (changed (only k (retaken (λ t. t + 1))) n) n)) [ true ↦ refl | false ↦ refl ]) in
+      ap (λ a. cond (is_ok a) (changed (only k (retaken (λ t. t + 1))) (changed f n)) (changed f n)) answer ∙ after_passed (λ t. t + 1) k n (is_ok (take_answer n k)) in
       (answer, after)
 
   -- a give that is passed down: answered alike, the layer shows what it left
@@ -91,31 +66,13 @@ module _ (f : ℕ → Link → Link) (commutes : (g : ℕ → ℕ) (j : ℕ) (l 
       let answer : give_answer (changed f n) k ≡ give_answer n k =
       answer_changed f n k (λ l. cond (ltb 0 l.taken) (Ok tt) (Err NoneTaken)) (λ l. cond (ltb 0 l.taken) (Ok tt) (Err NoneTaken)) (Err LinkTooHigh) (λ inside. ap (λ t. cond (ltb 0 t) (Ok tt) (Err NoneTaken)) (same k (link_at n k))) in
       let after : give_after (changed f n) k ≡ changed f (give_after n k) =
-      ap (λ a. cond (is_ok a) (changed (only k (retaken (λ t. t - 1))) (changed f n)) (changed f n)) answer
-      ∙ ap (λ m. cond (is_ok (give_answer n k)) m (changed f n)) (only_changed (λ t. t - 1) k n)
-      ∙ (elim (is_ok (give_answer n k)) as (λ b. cond b (changed f (changed (only k (retaken (λ t. t - 1))) n)) (changed f n) ≡ changed f (cond b (changed (only k (retaken (λ t. t - 1))) n) n)) [ true ↦ refl | false ↦ refl ]) in
+      ap (λ a. cond (is_ok a) (changed (only k (retaken (λ t. t - 1))) (changed f n)) (changed f n)) answer ∙ after_passed (λ t. t - 1) k n (is_ok (give_answer n k)) in
       (answer, after)
 
 -- what is told of a link, by a function of what was told
 pub told_with : {A B : Type 0} (f : Link → A) (h : A → B) (n : Net) (k : ℕ) (x : A) → Ok x ≡ told f n k → Ok (h x) ≡ told (λ l. h (f l)) n k
-told_with f h n k x e =
-    (elim (ltb k (length n.links)) as (λ t. Ok x ≡ cond t (Ok (f (link_at n k))) (Err LinkTooHigh) → Ok (h x) ≡ cond t (Ok (h (f (link_at n k)))) (Err LinkTooHigh)) [
-      | true ↦ λ q. let same : x ≡ f (link_at n k) = cc in ap (λ y. Ok (h y)) same
-      | false ↦ λ q. let z : ◌≡◌ {A = ℕ} 0 1 = cc in absurd (omega arith)
-    ]) e
+told_with f h n k x e = grind arith
 
 -- where one question is refused, so is every other, alike
 pub told_refused : {A B : Type 0} (f : Link → A) (h : Link → B) (n : Net) (k : ℕ) (x : NetworkRefusal) → Err x ≡ told f n k → Err x ≡ told h n k
-told_refused f h n k x e =
-    (elim (ltb k (length n.links)) as (λ t. Err x ≡ cond t (Ok (f (link_at n k))) (Err LinkTooHigh) → Err x ≡ cond t (Ok (h (link_at n k))) (Err LinkTooHigh)) [
-      | true ↦ λ q. let z : ◌≡◌ {A = ℕ} 0 1 = cc in absurd (omega arith)
-      | false ↦ λ q. let same : x ≡ LinkTooHigh = cc in ap Err same
-    ]) e
-
--- a link that is not dimmed is as usable as before
-pub open_usable : (dark : Bool) (l : Link) → dark ≡ false → usable (dimmed dark l) ≡ usable l
-open_usable dark l e = ap (λ b. (l.lit && not b) && ltb l.taken l.channels) e ∙ ap (λ b. b && ltb l.taken l.channels) (and_true l.lit)
-
--- a dimmed link is not usable
-pub dark_unusable : (dark : Bool) (l : Link) → dark ≡ true → usable (dimmed dark l) ≡ false
-dark_unusable dark l e = ap (λ b. (l.lit && not b) && ltb l.taken l.channels) e ∙ ap (λ b. b && ltb l.taken l.channels) (and_false l.lit)
+told_refused f h n k x e = grind arith

@@ -1,6 +1,5 @@
 -- Lists of links changed by number: lengths, places, one change after another.
-use Rattle.std.proofs.Common.{◌≡◌, ℕ, zero, suc, ◌+◌, ◌<◌, true, eqb, List, [], ◌∷◌, length, get_or, set, sym, refl, ap, ◌∙◌, add-zero, arith, eq-eqb, ne_eqb}
-use Rattle.std.proofs.lemmas.Bool.{cond-true, cond-false, and_parts, and_from}
+use Rattle.std.proofs.Common.{rules, tests, ◌≡◌, ℕ, zero, suc, ◌+◌, ◌<◌, true, List, [], ◌∷◌, length, get_or, set, sym, refl, ap, ◌∙◌, add-zero, arith}
 use Rattle.networks.specs.declared.model.Link.{Link}
 use Rattle.networks.specs.Meaning.{Net, link_at, no_link, all_sound, link_sound}
 use Rattle.networks.specs.Changing.{numbered, changed, only}
@@ -41,24 +40,13 @@ numbered_swap f g e k ls = numbered_twice f g k ls ∙ numbered_same (λ j l. f 
 -- no link past k is the link k
 past_only : (k i : ℕ) (f : Link → Link) (ls : List Link) → k < i → numbered (only k f) i ls ≡ ls
 past_only k i f [] h = refl
-past_only k i f (l ∷ ls) h =
-    let other : (i ≡ k → ⊥) = λ e. omega arith in
-    let later : k < suc i = omega arith in
-    ap (λ x. x ∷ numbered (only k f) (suc i) ls) (cond-false (eqb i k) (f l) l (ne_eqb i k other)) ∙ ap (λ t. l ∷ t) (past_only k (suc i) f ls later)
+past_only k i f (l ∷ ls) h = grind (arith, tests, past_only k (suc i) f ls)
 
 -- the place k of a list written, where the first link's number is i
 pub set_numbered : (i k : ℕ) (f : Link → Link) (ls : List Link) (d : Link) → k < length ls → set ls k (f (get_or ls k d)) ≡ numbered (only (i + k) f) i ls
 set_numbered i k f [] d h = absurd (omega arith)
-set_numbered i zero f (l ∷ ls) d h =
-    let here : i ≡ i + 0 = omega arith in
-    let later : i + 0 < suc i = omega arith in
-    ap (λ x. x ∷ ls) (sym (cond-true (eqb i (i + 0)) (f l) l (eq-eqb i (i + 0) here))) ∙ ap (λ t. only (i + 0) f i l ∷ t) (sym (past_only (i + 0) (suc i) f ls later))
-set_numbered i (suc k) f (l ∷ ls) d h =
-    let inside : k < length ls = omega arith in
-    let other : (i ≡ i + suc k → ⊥) = λ e. omega arith in
-    let shift : suc i + k ≡ i + suc k = omega arith in
-    ap (λ t. l ∷ t) (set_numbered (suc i) k f ls d inside ∙ ap (λ n. numbered (only n f) (suc i) ls) shift)
-    ∙ ap (λ x. x ∷ numbered (only (i + suc k) f) (suc i) ls) (sym (cond-false (eqb i (i + suc k)) (f l) l (ne_eqb i (i + suc k) other)))
+set_numbered i zero f (l ∷ ls) d h = grind (arith, tests, past_only i (suc i) f ls)
+set_numbered i (suc k) f (l ∷ ls) d h = grind (arith, tests, set_numbered (suc i) k f ls d)
 
 -- the link of a number after a change by number
 pub link_at_changed : (f : ℕ → Link → Link) (n : Net) (k : ℕ) → k < length n.links → link_at (changed f n) k ≡ f k (link_at n k)
@@ -69,6 +57,4 @@ link_at_changed f n k h =
 -- a change that keeps each link sound keeps all sound
 pub all_sound_numbered : (f : ℕ → Link → Link) (sites : ℕ) → ((j : ℕ) (l : Link) → link_sound sites l ≡ true → link_sound sites (f j l) ≡ true) → (k : ℕ) (ls : List Link) → all_sound sites ls ≡ true → all_sound sites (numbered f k ls) ≡ true
 all_sound_numbered f sites keeps k [] h = refl
-all_sound_numbered f sites keeps k (l ∷ ls) h =
-    let parts = and_parts (link_sound sites l) (all_sound sites ls) h in
-    and_from (link_sound sites (f k l)) (all_sound sites (numbered f (suc k) ls)) (keeps k l parts.0) (all_sound_numbered f sites keeps (suc k) ls parts.1)
+all_sound_numbered f sites keeps k (l ∷ ls) h = search (rules, tests, keeps k l, all_sound_numbered f sites keeps (suc k) ls)

@@ -30,6 +30,10 @@ pub record Sound (n : Net) : Type 0 where
 abbrev pub usable : Link → Bool
 usable l = l.lit && nat_lt l.taken l.channels
 
+-- lit, and no channel taken
+abbrev pub lit_link : ℕ → ℕ → ℕ → ℕ → ℕ → Link
+lit_link start end metres poles channels = record { start = start; end = end; metres = metres; poles = poles; channels = channels; taken = 0; lit = true }
+
 -- what is told past the last link: dark, of no length
 abbrev pub no_link : Link
 no_link = record { start = 0; end = 0; metres = 0; poles = 0; channels = 0; taken = 0; lit = false }

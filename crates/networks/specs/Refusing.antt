@@ -1,11 +1,10 @@
 -- The refusals of networks in the list of all refusals.
-use Rattle.std.specs.Prelude.{ℕ, Some, None, Option}
-use Rattle.std.specs.Option.{option_map}
+use Rattle.std.specs.Prelude.{List, ℕ, codes, Some, None, Option}
 use Rattle.networks.specs.declared.model.NetworkRefusal.{NetworkRefusal}
 use Rattle.networks.specs.declared.model.NetworkRefusal.TheVariants as its
 use Rattle.networks.specs.declared.building.BuildRefusal.{BuildRefusal}
 use Rattle.networks.specs.declared.building.BuildRefusal.TheVariants as built
-use Rattle.refusals.specs.Numbers.{number}
+use Rattle.refusals.specs.Numbers.{rule}
 use Rattle.refusals.specs.declared.Refusal.{Refusal}
 use Rattle.refusals.specs.declared.Refusal.TheVariants as listed
 
@@ -20,6 +19,7 @@ abbrev pub build_refusal : BuildRefusal → Option Refusal
 build_refusal built.OutsideLimits = Some listed.OutsideLimits
 build_refusal built.Memory = None
 
--- the number of a refusal where a network is made, if it has one
-abbrev pub build_number : BuildRefusal → Option ℕ
-build_number r = option_map number (build_refusal r)
+-- what is printed of it: the rule that was broken, as text
+abbrev pub build_rule : BuildRefusal → List ℕ
+build_rule built.OutsideLimits = rule listed.OutsideLimits
+build_rule built.Memory = codes "memory is wanting"

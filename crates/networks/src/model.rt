@@ -1,10 +1,12 @@
 //! A link's numbers, and the refusals of a network.
-ghost use Rattle.std.specs.Prelude.{◌≡◌};
-ghost use Rattle.networks.specs.Meaning.{link_sound, usable};
+ghost use Rattle.std.specs.Prelude.{◌≡◌, Some};
+ghost use Rattle.networks.specs.Meaning.{link_sound, usable, lit_link};
 ghost use Rattle.networks.specs.Refusing.{refusal};
-ghost use Rattle.refusals.specs.Numbers.{number};
+ghost use Rattle.refusals.specs.Numbers.{rule};
 
 use refusals::Refusal;
+use std::error::Error;
+use std::fmt;
 
 /// A link runs one way, from its start to its end. Of its metres some run on poles; of its channels some are taken; it is lit or dark.
 #[derive(Clone, Copy, PartialEq, Eq, Debug)]
@@ -19,23 +21,37 @@ pub struct Link {
 }
 
 impl Link {
+    /// A lit link with no channel taken.
+    pub fn lit(start: u16, end: u16, metres: u32, poles: u32, channels: u16) -> Link
+        ensures { result ≡ lit_link start end metres poles channels }
+    {
+        Link {
+            start,
+            end,
+            metres,
+            poles,
+            channels,
+            taken: 0,
+            lit: true,
+        }
+    }
+
     /// Whether every number is within its limits, in a network of so many sites.
+    #[tactic(auto, unfolding(crate::specs::Meaning::link_sound))]
     pub fn is_sound(&self, sites: u16) -> bool
         ensures { result ≡ link_sound sites self.now }
     {
-        let ends = (self.start < sites) & (self.end < sites) & (self.start != self.end);
-        let lengths = (1 <= self.metres) & (self.metres <= 1_000_000) & (self.poles <= self.metres);
-        let channels = (1 <= self.channels)
-            & (self.channels <= 255)
-            & (self.taken <= self.channels);
-        ends & lengths & channels
+        let ends = self.start < sites && self.end < sites && self.start != self.end;
+        let lengths = (1..=1_000_000).contains(&self.metres) && self.poles <= self.metres;
+        let channels = (1..=255).contains(&self.channels) && self.taken <= self.channels;
+        ends && lengths && channels
     }
 
     /// Whether the link is lit and has a channel free.
     pub fn is_usable(&self) -> bool
         ensures { result ≡ usable self.now }
     {
-        self.lit & (self.taken < self.channels)
+        self.lit && self.taken < self.channels
     }
 }
 
@@ -47,22 +63,25 @@ pub enum NetworkRefusal {
     NoneTaken,
 }
 
-impl NetworkRefusal {
-    /// Its place in the list of all refusals.
-    pub fn refusal(self) -> Refusal
-        ensures { result ≡ refusal self }
-    {
-        match self {
+impl From<NetworkRefusal> for Refusal {
+    ghost from_gives = { λ why r. r ≡ refusal why };
+
+    fn from(why: NetworkRefusal) -> Refusal {
+        match why {
             NetworkRefusal::LinkTooHigh => Refusal::LinkTooHigh,
             NetworkRefusal::NotUsable => Refusal::NotUsable,
             NetworkRefusal::NoneTaken => Refusal::NoneTaken,
         }
     }
+}
 
-    /// Its number in that list.
-    pub fn number(self) -> u8
-        ensures { result ≡ number (refusal self) }
-    {
-        self.refusal().number()
+// An `impl` for each enum: one for whatever converts to a refusal would be one for types of other crates too.
+impl fmt::Display for NetworkRefusal {
+    ghost output = { λ why. Some (rule (refusal why)) };
+
+    fn fmt<W: fmt::Write>(&self, f: &mut fmt::Formatter<W>) -> fmt::Result {
+        Refusal::from(*self).fmt(f)
     }
 }
+
+impl Error for NetworkRefusal {}

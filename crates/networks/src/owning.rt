@@ -1,6 +1,5 @@
 //! What the network that owns its links does: it is begun empty, grows link by link, and meets the trait.
-ghost use Rattle.std.specs.Prelude.{◌≡◌, true, is_ok, MatchResult};
-ghost use Rattle.networks.specs.Meaning.{link_sound};
+ghost use Rattle.std.specs.Prelude.{◌≡◌};
 ghost use Rattle.networks.specs.Changing.{cleared};
 ghost use Rattle.networks.specs.Owning.{owned_meaning, Begun, Added};
 ghost use Rattle.networks.specs.Telling.{told};
@@ -20,7 +19,7 @@ impl OwnedNetwork {
     pub fn empty(heap: Global, sites: u16) -> Result<OwnedNetwork, BuildRefusal>
         ensures { Begun sites result }
     {
-        if sites < 2 || 256 < sites {
+        if !(2..=256).contains(&sites) {
             return Err(BuildRefusal::OutsideLimits);
         }
         let links = Vec::new(heap);
@@ -28,28 +27,25 @@ impl OwnedNetwork {
     }
 
     /// One link more, after the others.
+    #[tactic(auto, using(crate::proofs::Soundness::sound_push))]
     pub fn add(&mut self, link: Link) -> Result<(), BuildRefusal>
         ensures { Added (owned_meaning self.old) link result (owned_meaning self.new) }
     {
-        let sites = self.sites;
-        if self.links.len() >= MOST_LINKS || !link.is_sound(sites) {
+        if self.links.len() >= MOST_LINKS || !link.is_sound(self.sites) {
             return Err(BuildRefusal::OutsideLimits);
         }
-        match self.links.push(link) {
-            Ok(()) => Ok(()),
-            Err(_) => Err(BuildRefusal::Memory),
-        }
+        self.links.push(link)?;
+        Ok(())
     }
 
     // The link of a number.
     fn link(&self, link: u16) -> Result<Link, NetworkRefusal>
         ensures { result ≡ told (λ l. l) (owned_meaning self.now) link }
     {
-        let at = link as usize;
-        if at >= self.links.len() {
-            return Err(NetworkRefusal::LinkTooHigh);
-        }
-        Ok(self.links[at])
+        self.links
+            .get(usize::from(link))
+            .copied()
+            .ok_or(NetworkRefusal::LinkTooHigh)
     }
 }
 
@@ -100,7 +96,7 @@ impl Network for OwnedNetwork {
             return Err(NetworkRefusal::NotUsable);
         }
         one.taken += 1;
-        self.links[link as usize] = one;
+        self.links[usize::from(link)] = one;
         Ok(())
     }
 
@@ -110,7 +106,7 @@ impl Network for OwnedNetwork {
             return Err(NetworkRefusal::NoneTaken);
         }
         one.taken -= 1;
-        self.links[link as usize] = one;
+        self.links[usize::from(link)] = one;
         Ok(())
     }
 }

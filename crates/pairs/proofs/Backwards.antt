@@ -173,11 +173,3 @@ module _ {C : Type 0} (v : View C) (first second : State C) (root target : ℕ) 
         leads = t.onward;
         written = written_more before route count s.passed o lt s.written;
       })
-
--- wiping a site that is not marked changes nothing
-pub wiped_none : (marked : ℕ → Bool) (site : ℕ) → marked site ≡ false → (w : ℕ) → marked w ≡ less site marked w
-wiped_none marked site h w =
-    elim (cases_eq w site) [
-      | inl e ↦ ap marked e ∙ h ∙ sym (cond-true (eqb w site) false (marked w) (eq-eqb w site e))
-      | inr n ↦ sym (cond-false (eqb w site) false (marked w) (ne_eqb w site n))
-    ]

@@ -4,6 +4,8 @@
 mod reading;
 mod routes;
 mod tree;
+mod walking;
 
-pub use reading::{Tables, mark_turns, read_pair, start_of, walk_back};
-pub use tree::tree_route;
+pub use reading::{Tables, mark_turns};
+pub use tree::Tree;
+pub use walking::start_of;

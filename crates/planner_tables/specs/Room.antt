@@ -1,11 +1,11 @@
 -- Whether the tables that are lent are long enough.
-use Rattle.std.specs.Prelude.{Bool, true, ◌&&◌, List, [], ◌∷◌, ℕ, leb, length}
+use Rattle.std.specs.Prelude.{Bool, ◌&&◌, List, [], ◌∷◌, ℕ, leb, length}
+use Rattle.std.specs.List.{list_all}
 use Rattle.planner_tables.specs.declared.tables.Tables.{Tables}
 
 -- whether none of some lengths is below the number of sites
 abbrev pub all_fit : ℕ → List ℕ → Bool
-all_fit sites [] = true
-all_fit sites (l ∷ ls) = leb sites l && all_fit sites ls
+all_fit sites lengths = list_all (λ l. leb sites l) lengths
 
 -- whether the tables of the first run, those of the second, and the other working tables all fit
 abbrev pub lengths_fit : ℕ → List ℕ → List ℕ → List ℕ → Bool

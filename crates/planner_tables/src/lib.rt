@@ -6,5 +6,4 @@ mod rooms;
 mod tables;
 
 pub use refusing::PlannerRefusal;
-pub use rooms::tables_fit;
 pub use tables::Tables;

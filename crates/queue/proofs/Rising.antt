@@ -1,16 +1,16 @@
 -- Lemmas on entries that rise and sink.
-use Rattle.std.proofs.Common.{◌≡◌, ℕ, ◌+◌, ◌*◌, ◌<◌, Bool, true, false, List, length, get_or, Some, None, sym, refl, ap, ◌∙◌, subst, inl, inr, arith}
+use Rattle.std.proofs.Common.{◌≡◌, ℕ, ◌<◌, Bool, true, false, List, length, get_or, Some, sym, refl, ap, ◌∙◌, subst, inl, inr, arith}
 use Rattle.std.proofs.lemmas.Bool.{cases_eq}
 use Rattle.std.proofs.lemmas.List.Edits.{Swapped}
 use Rattle.costs.specs.Costs.{Ops, Laws}
 use Rattle.std.proofs.lemmas.List.{get_or_read}
 use Rattle.queue.specs.Entries.{entry_at, before}
-use Rattle.queue.specs.Heaps.{above, Heap, HeapAbove, HeapBelow, LeastBelow}
+use Rattle.queue.specs.Heaps.{above, HeapAbove, HeapBelow, LeastBelow}
 use Rattle.queue.specs.declared.entries.Entry.{Entry}
-use Rattle.queue.proofs.Precedence.{at_most_trans, before_once, before_self}
+use Rattle.queue.proofs.Precedence.{at_most_trans, before_once}
 
 -- a comparison at equal entries
-moved : {C : Type 0} (k : Ops C) {x y v w : Entry C} → x ≡ v → y ≡ w → before k v w ≡ false → before k x y ≡ false
+pub moved : {C : Type 0} (k : Ops C) {x y v w : Entry C} → x ≡ v → y ≡ w → before k v w ≡ false → before k x y ≡ false
 moved k {x} {y} {v} {w} e d h = subst (λ z. before k z y ≡ false) (sym e) (subst (λ z. before k v z ≡ false) (sym d) h)
 
 module _ {C : Type 0} {k : Ops C} (laws : Laws k) where
@@ -39,18 +39,6 @@ module _ {C : Type 0} {k : Ops C} (laws : Laws k) where
         ];
   }
 
-  -- an entry that does not come before the one above it has risen
-  pub rise_end : (f : ℕ → Entry C) (n at : ℕ) → HeapAbove k f n at → before k (f at) (f (above at)) ≡ false → Heap k f n
-  rise_end f n at heap here i low high =
-      elim (cases_eq i at) [
-        | inl e ↦ moved k (ap f e) (ap (λ j. f (above j)) e) here
-        | inr far ↦ heap.others i low high far
-      ]
-
-  -- an entry at the top has risen
-  pub rise_top : (f : ℕ → Entry C) (n : ℕ) → HeapAbove k f n 0 → Heap k f n
-  rise_top f n heap i low high = heap.others i low high (λ e. omega arith)
-
   -- the least entry right below another came before it, and was exchanged with it
   pub sink_step : (f g : ℕ → Entry C) (n at to : ℕ) → HeapBelow k f n at → LeastBelow k f n at (Some to)
       → before k (f to) (f at) ≡ true → Swapped f g at to → HeapBelow k g n to
@@ -73,46 +61,6 @@ module _ {C : Type 0} {k : Ops C} (laws : Laws k) where
             moved k (sw.2 i (λ t. omega arith) (λ t. omega arith)) (ap g up_to ∙ sw.0)
             (moved k refl (ap f (sym up)) (heap.others i low high (λ t. omega arith)));
       }
-
-  -- an entry that the least right below it does not come before has sunk
-  pub sink_end : (f : ℕ → Entry C) (n at to : ℕ) → HeapBelow k f n at → LeastBelow k f n at (Some to) → before k (f to) (f at) ≡ false → Heap k f n
-  sink_end f n at to heap least here i low high =
-      elim (cases_eq (above i) at) [
-        | inl up ↦ moved k refl (ap f up) (at_most_trans laws (f at) (f to) (f i) here (least.3 i low high up))
-        | inr not_up ↦ heap.others i low high not_up
-      ]
-
-  -- an entry that has none right below it has sunk
-  pub sink_bottom : (f : ℕ → Entry C) (n at : ℕ) → HeapBelow k f n at → LeastBelow k f n at None → Heap k f n
-  sink_bottom f n at heap none i low high =
-      elim (cases_eq (above i) at) [
-        | inl up ↦ absurd (none i low high up)
-        | inr not_up ↦ heap.others i low high not_up
-      ]
-
-  -- of two entries right below another the one that comes before is the least
-  pub least_right : (f : ℕ → Entry C) (n at : ℕ) → 2 * at + 1 + 1 < n → before k (f (2 * at + 1 + 1)) (f (2 * at + 1)) ≡ true → LeastBelow k f n at (Some (2 * at + 1 + 1))
-  least_right f n at h less = (
-    omega arith,
-    h,
-    omega arith,
-    λ i low high up. elim (cases_eq i (2 * at + 1)) [
-      | inl e ↦ moved k (ap f e) refl (before_once laws (f (2 * at + 1 + 1)) (f (2 * at + 1)) less)
-      | inr other ↦ let e : i ≡ 2 * at + 1 + 1 = omega arith in moved k (ap f e) refl (before_self laws (f (2 * at + 1 + 1)))
-    ],
-  )
-
-  -- and else the other one, which there is at least
-  pub least_left : (f : ℕ → Entry C) (n at : ℕ) → 2 * at + 1 < n → (2 * at + 1 + 1 < n → before k (f (2 * at + 1 + 1)) (f (2 * at + 1)) ≡ false) → LeastBelow k f n at (Some (2 * at + 1))
-  least_left f n at h less = (
-    omega arith,
-    h,
-    omega arith,
-    λ i low high up. elim (cases_eq i (2 * at + 1)) [
-      | inl e ↦ moved k (ap f e) refl (before_self laws (f (2 * at + 1)))
-      | inr other ↦ let e : i ≡ 2 * at + 1 + 1 = omega arith in moved k (ap f e) refl (less (omega arith))
-    ],
-  )
 
 -- what a comparison of two entries that were read says of their places
 pub read_before : {C : Type 0} (k : Ops C) (xs : List (Entry C)) (i j : ℕ) (x y : Entry C) (b : Bool)

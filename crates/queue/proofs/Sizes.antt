@@ -1,10 +1,10 @@
 -- How many sites are held, and that there is room for one more.
-use Rattle.std.proofs.Common.{◌≡◌, ℕ, zero, suc, ◌+◌, ◌<◌, ◌≤◌, Bool, true, false, cond, eqb, is_some, Some, None, Option, sym, refl, ap, ◌∙◌, inl, inr, arith}
-use Rattle.std.proofs.lemmas.Bool.{cases_eq, cond-false, ne_eqb, cases_lt}
-use Rattle.queue.specs.Entries.{among, Once, NonePast}
+use Rattle.std.proofs.Common.{◌≡◌, ℕ, zero, suc, ◌+◌, ◌<◌, ◌≤◌, Bool, true, false, cond, eqb, is_some, Some, None, Option, sym, refl, ap, ◌∙◌, subst, inl, inr, arith}
+use Rattle.std.proofs.lemmas.Bool.{cases_eq, cond-false, ne_eqb}
+use Rattle.queue.specs.Entries.{among, Once, Below}
 use Rattle.queue.specs.Queues.{number}
 use Rattle.queue.specs.declared.entries.Entry.{Entry}
-use Rattle.queue.proofs.Standing.{found, absent, once_fewer}
+use Rattle.queue.proofs.Standing.{found, absent, placed, once_fewer}
 
 -- what a number that passes a test or not adds
 abbrev one : Bool → ℕ
@@ -63,38 +63,35 @@ number_none p (suc m) fails =
     omega arith
 
 -- as many sites are held as there are entries, where each stands once and none is past the room
-pub sized : {C : Type 0} (f : ℕ → Entry C) (n room : ℕ) → Once f n → NonePast f n room → number (λ s. is_some (among f n s)) room ≡ n
+pub sized : {C : Type 0} (f : ℕ → Entry C) (n room : ℕ) → Once f n → Below f n room → number (λ s. is_some (among f n s)) room ≡ n
 sized f zero room o past = number_none (λ s. is_some (among f zero s)) room (λ i. refl)
 sized f (suc n) room o past =
     let a = (f n).site in
     let here : among f (suc n) a ≡ Some (f n).cost = found f (suc n) a n o (omega arith) refl in
-    let low : a < room = elim (cases_lt a room) [
-      | inl h ↦ h
-      | inr high ↦ absurd (let none = past a high in let z : ◌≡◌ {A = ℕ} 0 1 = cc in omega arith)
-    ] in
+    let low : a < room = past n (omega arith) in
     let away : among f n a ≡ None = absent f n a (λ i h e. let z : i ≡ n = o i n (omega arith) (omega arith) e in omega arith) in
     let rest : (s : ℕ) → (s ≡ a → ⊥) → among f (suc n) s ≡ among f n s =
     λ s other. cond-false (eqb a s) (Some (f n).cost) (among f n s) (ne_eqb a s (λ e. other (sym e))) in
-    let past_n : NonePast f n room = λ s high. sym (rest s (λ e. omega arith)) ∙ past s high in
+    let past_n : Below f n room = λ i h. past i (omega arith) in
     number_more (λ s. is_some (among f (suc n) s)) (λ s. is_some (among f n s)) room a low (ap is_some here) (ap is_some away) (λ s other. ap is_some (rest s other))
     ∙ ap suc (sized f n room (once_fewer f n o) past_n)
 
 -- where a site below the room is not held, there is room for one more entry
-pub room_left : {C : Type 0} (f : ℕ → Entry C) (n room s : ℕ) → Once f n → NonePast f n room → s < room → among f n s ≡ None → n < room
+pub room_left : {C : Type 0} (f : ℕ → Entry C) (n room s : ℕ) → Once f n → Below f n room → s < room → among f n s ≡ None → n < room
 room_left f n room s o past low none =
     let all = sized f n room o past in
     let few = number_fewer (λ w. is_some (among f n w)) room s low (ap is_some none) in
     omega arith
 
--- there is room for the entries
-pub room_most : {C : Type 0} (f : ℕ → Entry C) (n room : ℕ) → Once f n → NonePast f n room → n ≤ room
-room_most f n room o past =
-    let all = sized f n room o past in
-    let most = number_most (λ w. is_some (among f n w)) room in
-    omega arith
-
--- a change of what is held of a site below the room leaves the sites past it
-pub past_changed : {C : Type 0} (f g : ℕ → Entry C) (n m s room : ℕ) (v : Option C) → s < room
-    → ((w : ℕ) → among g m w ≡ cond (eqb w s) v (among f n w)) → NonePast f n room → NonePast g m room
-past_changed f g n m s room v low held past w high =
-    held w ∙ cond-false (eqb w s) v (among f n w) (ne_eqb w s (λ e. omega arith)) ∙ past w high
+-- a change of what is held of a site below the room leaves all sites below it
+pub below_changed : {C : Type 0} (f g : ℕ → Entry C) (n m s room : ℕ) (v : Option C) → s < room → Once f n → Once g m
+    → ((w : ℕ) → among g m w ≡ cond (eqb w s) v (among f n w)) → Below f n room → Below g m room
+below_changed f g n m s room v low o o' held below i h =
+    elim (cases_eq (g i).site s) [
+      | inl e ↦ omega arith
+      | inr other ↦
+          let was : among f n (g i).site ≡ Some (g i).cost =
+          sym (held (g i).site ∙ cond-false (eqb (g i).site s) v (among f n (g i).site) (ne_eqb (g i).site s other)) ∙ found g m (g i).site i o' h refl in
+          let p = placed f n (g i).site (g i).cost o was in
+          subst (λ t. t < room) p.2 (below p.0 p.1)
+    ]

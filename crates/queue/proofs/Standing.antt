@@ -124,10 +124,6 @@ rearranged_swap f g n a b ha hb sw o =
       ]
     ]) o
 
--- nothing moved
-pub rearranged_none : {C : Type 0} (f : ℕ → Entry C) (n : ℕ) → Once f n → Rearranged f f n
-rearranged_none f n o = record { once = o; same = λ s. refl }
-
 -- one rearrangement after another
 pub rearranged_trans : {C : Type 0} (f g h : ℕ → Entry C) (n : ℕ) → Rearranged f g n → Rearranged g h n → Rearranged f h n
 rearranged_trans f g h n p q = record { once = q.once; same = λ s. q.same s ∙ p.same s }

@@ -1,13 +1,14 @@
 -- Lemmas on heaps in which one entry is written, and on the first entry.
-use Rattle.std.proofs.Common.{◌≡◌, ℕ, zero, suc, ◌<◌, true, false, cond, eqb, List, length, set, Some, None, Option, sym, refl, ap, ◌∙◌, subst, inl, inr, arith}
+use Rattle.std.proofs.Common.{◌≡◌, ℕ, zero, suc, ◌<◌, false, cond, eqb, List, length, get_or, set, Some, None, Option, sym, refl, ap, ◌∙◌, subst, inl, inr, arith}
 use Rattle.std.proofs.lemmas.Bool.{cases_eq, cond-true, cond-false, eq-eqb, ne_eqb}
-use Rattle.std.proofs.lemmas.List.{get_or-set_same, get_or-set_other}
+use Rattle.std.proofs.lemmas.List.{get_or_read, get_or-set_same, get_or-set_other}
 use Rattle.std.proofs.lemmas.List.Edits.{Swapped}
 use Rattle.costs.specs.Costs.{Ops, Laws}
 use Rattle.queue.specs.Entries.{entry_at, before, among, Once, PlaceOf, Rearranged}
-use Rattle.queue.specs.Heaps.{above, Heap, HeapAbove, HeapBelow, Changed, First}
+use Rattle.queue.specs.Heaps.{above, Heap, HeapAbove, HeapBelow, IsHeap, Sifted, Changed, First}
 use Rattle.queue.specs.declared.entries.Entry.{Entry}
-use Rattle.queue.proofs.Precedence.{at_most_trans, before_once, before_self}
+use Rattle.queue.proofs.Precedence.{at_most_trans, before_self}
+use Rattle.queue.proofs.Rising.{moved}
 use Rattle.queue.proofs.Standing.{found, absent, stands, placed, once_fewer, rearranged_swap}
 
 -- an entry is written at a place, and all others stay
@@ -17,10 +18,6 @@ Written f g at x = (g at ≡ x) × ((i : ℕ) → (i ≡ at → ⊥) → g i ≡
 -- a write to a table
 pub written_set : {C : Type 0} (k : Ops C) (xs : List (Entry C)) (at : ℕ) (x : Entry C) → at < length xs → Written (entry_at k xs) (entry_at k (set xs at x)) at x
 written_set k xs at x h = (get_or-set_same xs at x (record { cost = k.zero; site = 0 }) h, λ i other. get_or-set_other xs at i x (record { cost = k.zero; site = 0 }) other)
-
--- a comparison at equal entries
-moved : {C : Type 0} (k : Ops C) {x y v w : Entry C} → x ≡ v → y ≡ w → before k v w ≡ false → before k x y ≡ false
-moved k {x} {y} {v} {w} e d h = subst (λ z. before k z y ≡ false) (sym e) (subst (λ z. before k v z ≡ false) (sym d) h)
 
 -- what is held where another cost is written for the site at a place
 module _ {C : Type 0} (f g : ℕ → Entry C) (n at : ℕ) (x : Entry C) (high : at < n) (same_site : x.site ≡ (f at).site) (w : Written f g at x) (o : Once f n) where
@@ -99,31 +96,6 @@ module _ {C : Type 0} (f g : ℕ → Entry C) (n : ℕ) (x : Entry C) (w : Writt
   }
 
 module _ {C : Type 0} {k : Ops C} (laws : Laws k) where
-  -- two entries above each other, and the entry between them
-  over_two : (f : ℕ → Entry C) (n i at : ℕ) → Heap k f n → 0 < i → i < n → above i ≡ at → 0 < at → before k (f i) (f (above at)) ≡ false
-  over_two f n i at heap low high up pos =
-      at_most_trans laws (f (above at)) (f at) (f i) (heap at pos (omega arith)) (moved k refl (ap f (sym up)) (heap i low high))
-
-  -- an entry whose cost fell may come before that above it
-  pub fall_order : (f g : ℕ → Entry C) (n at : ℕ) (x : Entry C) → Written f g at x → Heap k f n → before k x (f at) ≡ true → HeapAbove k g n at
-  fall_order f g n at x w heap less = record {
-    others = λ i low high far. elim (cases_eq (above i) at) [
-      | inl up ↦ moved k (w.1 i far) (ap g up ∙ w.0) (at_most_trans laws x (f at) (f i) (before_once laws x (f at) less) (moved k refl (ap f (sym up)) (heap i low high)))
-      | inr not_up ↦ moved k (w.1 i far) (w.1 (above i) not_up) (heap i low high)
-    ];
-    across = λ i low high up pos. moved k (w.1 i (λ e. omega arith)) (w.1 (above at) (λ e. omega arith)) (over_two f n i at heap low high up pos);
-  }
-
-  -- entries below one whose cost did not fall may come before it
-  pub grow_order : (f g : ℕ → Entry C) (n at : ℕ) (x : Entry C) → at < n → Written f g at x → Heap k f n → before k x (f at) ≡ false → HeapBelow k g n at
-  grow_order f g n at x in_use w heap grown = record {
-    others = λ i low high not_up. elim (cases_eq i at) [
-      | inl e ↦ moved k (ap g e ∙ w.0) (w.1 (above i) not_up) (at_most_trans laws (f (above i)) (f at) x (moved k (ap f (sym e)) refl (heap i low high)) grown)
-      | inr far ↦ moved k (w.1 i far) (w.1 (above i) not_up) (heap i low high)
-    ];
-    across = λ i low high up pos. moved k (w.1 i (λ e. omega arith)) (w.1 (above at) (λ e. omega arith)) (over_two f n i at heap low high up pos);
-  }
-
   -- no entry of a heap comes before the first, by so many steps at most
   first_within : (f : ℕ → Entry C) (n steps i : ℕ) → Heap k f n → i < steps → i < n → before k (f i) (f 0) ≡ false
   first_within f n zero i heap near high = absurd (omega arith)
@@ -134,15 +106,18 @@ module _ {C : Type 0} {k : Ops C} (laws : Laws k) where
       ]
 
   -- the first entry of a heap is held, and none comes before it
-  pub first_is : (f : ℕ → Entry C) (n : ℕ) (x : Entry C) → 0 < n → Once f n → Heap k f n → x ≡ f 0 → First k f n x
-  first_is f n x pos o heap e = record {
-    held = found f n x.site 0 o pos (ap (λ y. y.site) (sym e)) ∙ ap (λ y. Some y.cost) (sym e);
-    least = λ w c h.
-        let p = placed f n w c o h in
-        let there : before k (f p.0) (f 0) ≡ false = first_within f n n p.0 heap p.1 p.1 in
-        let here : before k (f p.0) x ≡ false = moved k refl e there in
-        subst (λ d. before k (record { cost = d; site = w }) x ≡ false) p.3 (subst (λ s. before k (record { cost = (f p.0).cost; site = s }) x ≡ false) p.2 here);
-  }
+  pub first_is : (xs : List (Entry C)) (x : Entry C) → 0 < length xs → IsHeap k xs → x ≡ get_or xs 0 x → First k xs x
+  first_is xs x pos heap read =
+      let f = entry_at k xs in
+      let e : x ≡ f 0 = get_or_read xs 0 x pos read (record { cost = k.zero; site = 0 }) in
+      record {
+        held = found f (length xs) x.site 0 heap.once pos (ap (λ y. y.site) (sym e)) ∙ ap (λ y. Some y.cost) (sym e);
+        least = λ w c h.
+            let p = placed f (length xs) w c heap.once h in
+            let there : before k (f p.0) (f 0) ≡ false = first_within f (length xs) (length xs) p.0 heap.order p.1 p.1 in
+            let here : before k (f p.0) x ≡ false = moved k refl e there in
+            subst (λ d. before k (record { cost = d; site = w }) x ≡ false) p.3 (subst (λ s. before k (record { cost = (f p.0).cost; site = s }) x ≡ false) p.2 here);
+      }
 
   -- after the first and the last are exchanged only entries right below the first may come before it
   pub taken_order : (f g : ℕ → Entry C) (n m : ℕ) → m < n → Swapped f g 0 m → Heap k f n → HeapBelow k g m 0
@@ -176,6 +151,9 @@ taken_once f g m o sw =
     let r : Rearranged f g (suc m) = rearranged_swap f g (suc m) 0 m (omega arith) (omega arith) sw o in once_fewer g m r.once
 
 -- a change of what is held of a site, and then another order of the entries
-pub changed_then : {C : Type 0} {k : Ops C} (f g h : ℕ → Entry C) (n m s : ℕ) (v : Option C)
-    → ((w : ℕ) → among g m w ≡ cond (eqb w s) v (among f n w)) → Rearranged g h m → Heap k h m → Changed k f n s v h m
-changed_then f g h n m s v held r heap = record { once = r.once; held = λ w. r.same w ∙ held w; order = heap }
+pub changed_then : {C : Type 0} {k : Ops C} (xs ys zs : List (Entry C)) (s : ℕ) (v : Option C)
+    → ((w : ℕ) → among (entry_at k ys) (length ys) w ≡ cond (eqb w s) v (among (entry_at k xs) (length xs) w)) → Sifted k ys zs → length zs ≡ length ys → Changed k xs s v zs
+changed_then {k = k} xs ys zs s v held sifted same = record {
+  heap = record { once = subst (Once (entry_at k zs)) (sym same) sifted.held.once; order = subst (Heap k (entry_at k zs)) (sym same) sifted.order };
+  held = λ w. ap (λ m. among (entry_at k zs) m w) same ∙ sifted.held.same w ∙ held w;
+}

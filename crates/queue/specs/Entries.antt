@@ -1,5 +1,5 @@
 -- What a table of entries holds.
-use Rattle.std.specs.Prelude.{◌≡◌, ℕ, zero, suc, ◌<◌, ◌≤◌, Bool, cond, not, ◌&&◌, ◌||◌, List, Some, None, Option, ◌==◌, ◌≢◌, nat_lt, slice_index_or}
+use Rattle.std.specs.Prelude.{◌≡◌, ℕ, zero, suc, ◌<◌, Bool, cond, not, ◌&&◌, ◌||◌, List, Some, None, Option, ◌==◌, ◌≢◌, nat_lt, slice_index_or}
 use Rattle.costs.specs.Costs.{Ops}
 use Rattle.queue.specs.declared.entries.Entry.{Entry}
 
@@ -20,9 +20,9 @@ among f (suc i) s = cond ((f i).site == s) (Some (f i).cost) (among f i s)
 abbrev pub Once : {C : Type 0} → (ℕ → Entry C) → ℕ → Type 0
 Once f n = (i j : ℕ) → i < n → j < n → (f i).site ≡ (f j).site → i ≡ j
 
--- no site from a number on stands there
-abbrev pub NonePast : {C : Type 0} → (ℕ → Entry C) → ℕ → ℕ → Type 0
-NonePast f n room = (s : ℕ) → room ≤ s → among f n s ≡ None
+-- only sites below a room stand there
+abbrev pub Below : {C : Type 0} → (ℕ → Entry C) → ℕ → ℕ → Type 0
+Below f n room = (i : ℕ) → i < n → (f i).site < room
 
 -- the place below a number at which a site stands, if it does
 abbrev pub PlaceOf : {C : Type 0} → (ℕ → Entry C) → ℕ → ℕ → Option ℕ → Type 0

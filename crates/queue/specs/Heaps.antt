@@ -1,8 +1,8 @@
 -- The order in which the entries of a heap stand.
-use Rattle.std.specs.Prelude.{◌≡◌, ℕ, ◌-◌, ◌/◌, ◌<◌, false, cond, Some, None, Option, ◌==◌, ◌≢◌}
+use Rattle.std.specs.Prelude.{◌≡◌, ℕ, ◌-◌, ◌/◌, ◌<◌, List, length, false, cond, Some, None, Option, ◌==◌, ◌≢◌}
 use Rattle.costs.specs.Costs.{Ops}
 use Rattle.queue.specs.declared.entries.Entry.{Entry}
-use Rattle.queue.specs.Entries.{before, among, Once}
+use Rattle.queue.specs.Entries.{entry_at, before, among, Once, Rearranged}
 
 -- the place above a place
 abbrev pub above : ℕ → ℕ
@@ -31,13 +31,22 @@ abbrev pub LeastBelow : {C : Type 0} → Ops C → (ℕ → Entry C) → ℕ →
 LeastBelow k f n at None = (i : ℕ) → 0 < i → i < n → above i ≢ at
 LeastBelow k f n at (Some j) = (0 < j) × (j < n) × (above j ≡ at) × ((i : ℕ) → 0 < i → i < n → above i ≡ at → before k (f i) (f j) ≡ false)
 
+-- the entries of a table: each site stands once, and no entry comes before that above it
+pub record IsHeap {C : Type 0} (k : Ops C) (xs : List (Entry C)) : Type 0 where
+  pub once : Once (entry_at k xs) (length xs)
+  pub order : Heap k (entry_at k xs) (length xs)
+
+-- the same entries stand in two tables, in the second as a heap
+pub record Sifted {C : Type 0} (k : Ops C) (xs ys : List (Entry C)) : Type 0 where
+  pub held : Rearranged (entry_at k xs) (entry_at k ys) (length xs)
+  pub order : Heap k (entry_at k ys) (length xs)
+
 -- after a change of what is held of one site the entries are a heap with each site once
-pub record Changed {C : Type 0} (k : Ops C) (f : ℕ → Entry C) (n s : ℕ) (o : Option C) (g : ℕ → Entry C) (m : ℕ) : Type 0 where
-  pub once : Once g m
-  pub held : (w : ℕ) → among g m w ≡ cond (w == s) o (among f n w)
-  pub order : Heap k g m
+pub record Changed {C : Type 0} (k : Ops C) (xs : List (Entry C)) (s : ℕ) (o : Option C) (ys : List (Entry C)) : Type 0 where
+  pub heap : IsHeap k ys
+  pub held : (w : ℕ) → among (entry_at k ys) (length ys) w ≡ cond (w == s) o (among (entry_at k xs) (length xs) w)
 
 -- an entry is held, and no other that is held comes before it
-pub record First {C : Type 0} (k : Ops C) (f : ℕ → Entry C) (n : ℕ) (x : Entry C) : Type 0 where
-  pub held : among f n x.site ≡ Some x.cost
-  pub least : (w : ℕ) (c : C) → among f n w ≡ Some c → before k (record { cost = c; site = w }) x ≡ false
+pub record First {C : Type 0} (k : Ops C) (xs : List (Entry C)) (x : Entry C) : Type 0 where
+  pub held : among (entry_at k xs) (length xs) x.site ≡ Some x.cost
+  pub least : (w : ℕ) (c : C) → among (entry_at k xs) (length xs) w ≡ Some c → before k (record { cost = c; site = w }) x ≡ false

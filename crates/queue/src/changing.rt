@@ -1,89 +1,50 @@
 //! How a heap of entries takes in, changes and gives up entries.
-ghost use Rattle.std.specs.Prelude.{◌+◌, ◌-◌, ◌<◌, ◌≤◌, length, Some, None};
-ghost use Rattle.queue.specs.Entries.{entry_at, Once, NonePast, PlaceOf};
-ghost use Rattle.queue.specs.Heaps.{Heap, Changed, First};
+ghost use Rattle.std.specs.Prelude.{◌≡◌, ◌-◌, ◌<◌, length, take, Some, None};
+ghost use Rattle.queue.specs.Entries.{entry_at, PlaceOf};
+ghost use Rattle.queue.specs.Heaps.{IsHeap, Changed, First};
 
-use crate::entries::{Entry, precedes};
+use crate::entries::Entry;
 use crate::sifting::{rise, sink};
 use costs::Cost;
 
-/// The place of a site among the first entries, if it stands there.
-fn place_of<C: Cost + Copy>(entries: &[Entry<C>], count: usize, site: u16) -> Option<usize>
-    requires { count ≤ length entries.now }
-    ensures { PlaceOf (entry_at C.Cost.ops entries.now) count site result }
-{
-    for i in 0..count {
-        let entry = entries[i];
-        if entry.site == site {
-            return Some(i);
-        }
-    }
-    None
-}
-
 /// Gives the entry at a place another cost.
-fn change<C: Cost + Copy>(entries: &mut [Entry<C>], count: usize, at: usize, cost: C)
-    requires within { (at < count) × (count ≤ length entries.old) }
-    requires once { Once (entry_at C.Cost.ops entries.old) count }
-    requires order { Heap C.Cost.ops (entry_at C.Cost.ops entries.old) count }
-    ensures { Changed C.Cost.ops (entry_at C.Cost.ops entries.old) count (entry_at C.Cost.ops entries.old at).site (Some cost) (entry_at C.Cost.ops entries.new) count }
+pub(crate) fn change<C: Cost + Copy>(entries: &mut [Entry<C>], at: usize, cost: C)
+    requires within { at < length entries.old }
+    requires heap { IsHeap C.Cost.ops entries.old }
+    ensures { Changed C.Cost.ops entries.old (entry_at C.Cost.ops entries.old at).site (Some cost) entries.new }
 {
     let old = entries[at];
-    let new = Entry {
-        cost,
-        site: old.site,
-    };
+    let new = Entry { cost, ..old };
     entries[at] = new;
-    if precedes(new, old) {
-        rise(entries, count, at);
+    if new.precedes(&old) {
+        rise(entries, at);
     } else {
-        sink(entries, count, at);
+        sink(entries, at);
     }
 }
 
-/// Puts an entry of a new site to the first ones.
-fn add<C: Cost + Copy>(entries: &mut [Entry<C>], count: usize, entry: Entry<C>)
-    requires within { count < length entries.old }
-    requires once { Once (entry_at C.Cost.ops entries.old) count }
-    requires away { PlaceOf (entry_at C.Cost.ops entries.old) count entry.site None }
-    requires order { Heap C.Cost.ops (entry_at C.Cost.ops entries.old) count }
-    ensures { Changed C.Cost.ops (entry_at C.Cost.ops entries.old) count entry.site (Some entry.cost) (entry_at C.Cost.ops entries.new) (count + 1) }
+/// Puts an entry of a new site in the last place, after the others.
+pub(crate) fn add<C: Cost + Copy>(entries: &mut [Entry<C>], entry: Entry<C>)
+    requires some { 0 < length entries.old }
+    requires heap { IsHeap C.Cost.ops (take (length entries.old - 1) entries.old) }
+    requires away { PlaceOf (entry_at C.Cost.ops entries.old) (length entries.old - 1) entry.site None }
+    ensures { Changed C.Cost.ops (take (length entries.old - 1) entries.old) entry.site (Some entry.cost) entries.new }
 {
-    entries[count] = entry;
-    rise(entries, count + 1, count);
+    let last = entries.len() - 1;
+    entries[last] = entry;
+    rise(entries, last);
 }
 
-/// Puts a site in at a cost, in a new entry or in its own, and tells how many entries there are then.
-pub fn put<C: Cost + Copy>(entries: &mut [Entry<C>], count: usize, entry: Entry<C>) -> usize
-    requires within { (count ≤ length entries.old) × (entry.site < length entries.old) }
-    requires once { Once (entry_at C.Cost.ops entries.old) count }
-    requires below { NonePast (entry_at C.Cost.ops entries.old) count (length entries.old) }
-    requires order { Heap C.Cost.ops (entry_at C.Cost.ops entries.old) count }
-    ensures { Changed C.Cost.ops (entry_at C.Cost.ops entries.old) count entry.site (Some entry.cost) (entry_at C.Cost.ops entries.new) result }
+/// Takes the entry that comes before all others out, and leaves the others in all places but the last.
+pub(crate) fn remove_first<C: Cost + Copy>(entries: &mut [Entry<C>]) -> Entry<C>
+    requires some { 0 < length entries.old }
+    requires heap { IsHeap C.Cost.ops entries.old }
+    ensures first { First C.Cost.ops entries.old result }
+    ensures left { Changed C.Cost.ops entries.old result.site None (take (length entries.old - 1) entries.new) }
 {
-    match place_of(entries, count, entry.site) {
-        Some(at) => {
-            change(entries, count, at, entry.cost);
-            count
-        }
-        None => {
-            add(entries, count, entry);
-            count + 1
-        }
-    }
-}
-
-/// Takes the entry that comes before all others from the first ones.
-pub fn remove_first<C: Cost + Copy>(entries: &mut [Entry<C>], count: usize) -> Entry<C>
-    requires within { (0 < count) × (count ≤ length entries.old) }
-    requires once { Once (entry_at C.Cost.ops entries.old) count }
-    requires order { Heap C.Cost.ops (entry_at C.Cost.ops entries.old) count }
-    ensures first { First C.Cost.ops (entry_at C.Cost.ops entries.old) count result }
-    ensures left { Changed C.Cost.ops (entry_at C.Cost.ops entries.old) count result.site None (entry_at C.Cost.ops entries.new) (count - 1) }
-{
-    let last = count - 1;
     let first = entries[0];
+    let last = entries.len() - 1;
     entries.swap(0, last);
-    sink(entries, last, 0);
+    sink(&mut entries[..last], 0);
     first
 }

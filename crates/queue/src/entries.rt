@@ -11,9 +11,12 @@ pub struct Entry<C> {
     pub site: u16,
 }
 
-/// Whether an entry comes before another: its cost is less, or the same and its site lower.
-pub fn precedes<C: Cost + Copy>(x: Entry<C>, y: Entry<C>) -> bool
-    ensures { result ≡ before C.Cost.ops x y }
-{
-    x.cost.less(y.cost) || (!y.cost.less(x.cost) && x.site < y.site)
+impl<C: Cost + Copy> Entry<C> {
+    /// Whether this entry comes before another: its cost is less, or the same and its site lower.
+    // `PartialOrd` would ask each cost kind for an equality, and a kind compares by `less` alone.
+    pub(crate) fn precedes(&self, other: &Entry<C>) -> bool
+        ensures { result ≡ before C.Cost.ops self.now other.now }
+    {
+        self.cost.less(other.cost) || (!other.cost.less(self.cost) && self.site < other.site)
+    }
 }

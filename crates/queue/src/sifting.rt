@@ -1,23 +1,23 @@
 //! How entries rise and sink in a heap.
-ghost use Rattle.std.specs.Prelude.{◌<◌, ◌≤◌, length};
-ghost use Rattle.queue.specs.Entries.{entry_at, Once, Rearranged};
-ghost use Rattle.queue.specs.Heaps.{Heap, HeapAbove, HeapBelow, LeastBelow};
+ghost use Rattle.std.specs.Prelude.{◌<◌, length};
+ghost use Rattle.queue.specs.Entries.{entry_at, Once};
+ghost use Rattle.queue.specs.Heaps.{HeapAbove, HeapBelow, LeastBelow, Sifted};
 
-use crate::entries::{Entry, precedes};
+use crate::entries::Entry;
 use costs::Cost;
 
 /// Lets the entry at a place rise until it does not come before the one above it.
-pub fn rise<C: Cost + Copy>(entries: &mut [Entry<C>], count: usize, from: usize)
-    requires within { (from < count) × (count ≤ length entries.old) }
-    requires once { Once (entry_at C.Cost.ops entries.old) count }
-    requires order { HeapAbove C.Cost.ops (entry_at C.Cost.ops entries.old) count from }
-    ensures held { Rearranged (entry_at C.Cost.ops entries.old) (entry_at C.Cost.ops entries.new) count }
-    ensures order { Heap C.Cost.ops (entry_at C.Cost.ops entries.new) count }
+pub(crate) fn rise<C: Cost + Copy>(entries: &mut [Entry<C>], from: usize)
+    requires within { from < length entries.old }
+    requires once { Once (entry_at C.Cost.ops entries.old) (length entries.old) }
+    requires order { HeapAbove C.Cost.ops (entry_at C.Cost.ops entries.old) (length entries.old) from }
+    ensures { Sifted C.Cost.ops entries.old entries.new }
 {
     let mut at = from;
+    // From a place to the one above it, not from place to place.
     while at > 0 {
         let above = (at - 1) / 2;
-        if !precedes(entries[at], entries[above]) {
+        if !entries[at].precedes(&entries[above]) {
             return;
         }
         entries.swap(at, above);
@@ -26,16 +26,15 @@ pub fn rise<C: Cost + Copy>(entries: &mut [Entry<C>], count: usize, from: usize)
 }
 
 /// The place of the least of the entries right below a place, if there are any.
-fn least_below<C: Cost + Copy>(entries: &[Entry<C>], count: usize, at: usize) -> Option<usize>
-    requires { count ≤ length entries.now }
-    ensures { LeastBelow C.Cost.ops (entry_at C.Cost.ops entries.now) count at result }
+fn least_below<C: Cost + Copy>(entries: &[Entry<C>], at: usize) -> Option<usize>
+    ensures { LeastBelow C.Cost.ops (entry_at C.Cost.ops entries.now) (length entries.now) at result }
 {
-    if at >= count / 2 {
+    if at >= entries.len() / 2 {
         return None;
     }
     let left = 2 * at + 1;
     let right = left + 1;
-    if right < count && precedes(entries[right], entries[left]) {
+    if right < entries.len() && entries[right].precedes(&entries[left]) {
         Some(right)
     } else {
         Some(left)
@@ -43,16 +42,14 @@ fn least_below<C: Cost + Copy>(entries: &[Entry<C>], count: usize, at: usize) ->
 }
 
 /// Lets the entry at a place sink until none right below comes before it.
-pub fn sink<C: Cost + Copy>(entries: &mut [Entry<C>], count: usize, from: usize)
-    requires within { count ≤ length entries.old }
-    requires once { Once (entry_at C.Cost.ops entries.old) count }
-    requires order { HeapBelow C.Cost.ops (entry_at C.Cost.ops entries.old) count from }
-    ensures held { Rearranged (entry_at C.Cost.ops entries.old) (entry_at C.Cost.ops entries.new) count }
-    ensures order { Heap C.Cost.ops (entry_at C.Cost.ops entries.new) count }
+pub(crate) fn sink<C: Cost + Copy>(entries: &mut [Entry<C>], from: usize)
+    requires once { Once (entry_at C.Cost.ops entries.old) (length entries.old) }
+    requires order { HeapBelow C.Cost.ops (entry_at C.Cost.ops entries.old) (length entries.old) from }
+    ensures { Sifted C.Cost.ops entries.old entries.new }
 {
     let mut at = from;
-    while let Some(below) = least_below(entries, count, at) {
-        if !precedes(entries[below], entries[at]) {
+    while let Some(below) = least_below(entries, at) {
+        if !entries[below].precedes(&entries[at]) {
             return;
         }
         entries.swap(at, below);

@@ -40,8 +40,7 @@ fn a_table_has_room_for_its_own_sites(rt: HostRuntime) -> Result<(), Fail> {
     queue.offer(0, long(6))?;
     assert_eq!(rt; queue.len(), 2);
     queue.offer(0, long(8))?;
-    let first = queue.take_least();
-    let Some(first) = first else {
+    let Some(first) = queue.take_least() else {
         return Err(Fail::new("there are two"));
     };
     assert_eq!(rt; first.site, 1);

@@ -1,5 +1,5 @@
 -- The answer of a planning by what the tables of both runs hold.
-use Rattle.std.proofs.Common.{◌≡◌, ℕ, ◌<◌, Bool, true, false, cond, eqb, List, get_or, Some, None, Option, sym, refl, ap, ◌∙◌, subst}
+use Rattle.std.proofs.Common.{◌≡◌, ℕ, ◌<◌, true, false, List, Some, None, Option, sym, refl, ap, ◌∙◌, subst}
 use Rattle.std.proofs.lemmas.Bool.{both_ways}
 use Rattle.costs.specs.Costs.{Ops, Laws, worked}
 use Rattle.networks.specs.Meaning.{Net, Sound}
@@ -8,23 +8,17 @@ use Rattle.least_pairs.specs.Runs.{Label}
 use Rattle.least_pairs.specs.Plans.{Answer, no_route, one_link, pair, answer, answered, labelled, first_cut}
 use Rattle.least_pairs.specs.Rightness.{Right}
 use Rattle.least_pairs.proofs.Proved.{answers_are_right, sums_are_exact}
-use Rattle.runs.specs.Tables.{held}
 use Rattle.pairs.specs.Reading.{first_of, second_of, pair_of, tree_route_to}
 use Rattle.quotes.specs.Quotes.{Answered}
-
--- where the labels have one, the tables have it
-pub held_label : {C : Type 0} (k : Ops C) (costs : List C) (links turns : List ℕ) (w : ℕ) (o : Option (Label C)) → held k costs links turns w ≡ o → labelled o ≡ true → o ≡ Some (record { cost = get_or costs w k.zero; link = get_or links w 65535; turn = get_or turns w 65535 })
-held_label k costs links turns w o is h =
-    sym is ∙ some (eqb (get_or links w 65535) 65535) (record { cost = get_or costs w k.zero; link = get_or links w 65535; turn = get_or turns w 65535 }) (ap labelled is ∙ h)
-  where
-    some : {C : Type 0} (b : Bool) (l : Label C) → labelled (cond b None (Some l)) ≡ true → cond b None (Some l) ≡ Some l
-    some true l e = absurd (both_ways false refl e)
-    some false l e = refl
 
 -- who is not labelled has no label
 pub unlabelled : {C : Type 0} (o : Option (Label C)) → labelled o ≡ false → o ≡ None
 unlabelled None h = refl
 unlabelled (Some l) h = absurd (both_ways true h refl)
+
+-- what holds of a network and a root holds of the same
+pub at_same : (n m : Net) (root other : ℕ) (P : Net → ℕ → Type 0) → n ≡ m → root ≡ other → P n root → P m other
+at_same n m root other P e f h = subst (λ r. P m r) f (subst (λ x. P x root) e h)
 
 module _ {C : Type 0} {k : Ops C} (laws : Laws k) (n : Net) (sound : Sound n) (root target : ℕ) (inside : root < n.sites) (low : target < n.sites) (other : target ≡ root → ⊥) where
   -- what is the answer is right
@@ -51,3 +45,7 @@ module _ {C : Type 0} {k : Ops C} (laws : Laws k) (n : Net) (sound : Sound n) (r
       let exact : total ≡ k.plus l.cost (k.plus d.cost d.cost) = total_is ∙ ap (worked k l.cost) (sums.twice_distance target d hd).1 ∙ (sums.total target d l hd hl).1 in
       is_right (pair one two total)
       ((λ i. answered k (view k n) root target (first_of k n root) (second_of k n root) (hd i) (hl i)) ∙ (λ i. pair (sym one_is i) (sym two_is i) (sym exact i)))
+
+-- the pair of a network and a root is that of the same
+pub pair_at : {C : Type 0} {k : Ops C} (n m : Net) (root other target : ℕ) (one two : List ℕ) (total : C) → n ≡ m → root ≡ other → Answered k n root target (pair one two total) → Answered k m other target (pair one two total)
+pair_at {k = k} n m root other target one two total e f h = at_same n m root other (λ x r. Answered k x r target (pair one two total)) e f h

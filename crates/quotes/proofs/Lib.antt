@@ -1,3 +1,4 @@
 -- Lemmas of quotes.
 pub mod Answering
 pub mod Testing
+pub mod Cut

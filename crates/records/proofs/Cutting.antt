@@ -1,29 +1,12 @@
 -- The first record of some bytes, as it is cut off them.
-use Rattle.std.proofs.Common.{◌≡◌, ℕ, ◌+◌, ◌-◌, ◌<◌, ◌≤◌, true, false, List, [], ◌∷◌, ◌++◌, length, get_or, take, drop, sym, refl, ap, ◌∙◌, subst, ⊎_elim, arith, Fits-lit, w8, Fits}
-use Rattle.std.proofs.lemmas.List.{take_rest, drop-drop, length-take-le, length-take, length-drop, get_or-take, get_or-drop, get_or_past, take-append-drop}
+use Rattle.std.proofs.Common.{◌≡◌, ℕ, ◌+◌, ◌≤◌, false, List, [], ◌∷◌, ◌++◌, length, get_or, take, drop, sym, refl, ap, ◌∙◌, subst, ⊎_elim, arith, Fits-lit, w8, Fits}
+use Rattle.std.proofs.lemmas.List.{drop-drop, length-take-le, length-take, length-drop, get_or-take, get_or-drop, get_or_past, take-append-drop}
 use Rattle.records.proofs.Numbers.{le16_of}
-use Rattle.std.proofs.lemmas.Bool.{le-ltb, lt-ltb, ltb-false, or_from, or_left, or_right, or_parts, cases_lt}
-use Rattle.records.specs.Bytes.{le16, u16_at, record_bytes, cut_short, kind_of, payload_of, rest_of, First}
+use Rattle.std.proofs.lemmas.Bool.{le-ltb, ltb-false, or_from, or_parts, cases_lt}
+use Rattle.records.specs.Bytes.{le16, u16_at, record_bytes, cut_short, kind_of, payload_of, rest_of}
 
 pub whole : (bytes : List ℕ) → 4 + u16_at bytes 0 ≤ length bytes → cut_short bytes ≡ false
 whole bytes h = or_from _ _ (le-ltb _ _ (omega arith)) (le-ltb _ _ h)
-
-pub no_head : (bytes : List ℕ) → length bytes < 4 → cut_short bytes ≡ true
-no_head bytes h = or_left _ _ (lt-ltb _ _ h)
-
-pub no_payload : (bytes : List ℕ) → length bytes < 4 + u16_at bytes 0 → cut_short bytes ≡ true
-no_payload bytes h = or_right _ _ (lt-ltb _ _ h)
-
--- what the code cuts off
-module _ (bytes : List ℕ) (n : ℕ) where
-  pub after_is : take (length bytes - 4) (drop 4 bytes) ≡ drop 4 bytes
-  after_is = take_rest bytes 4
-
-  pub payload_is : n ≡ u16_at bytes 0 → take (n - 0) (take (length bytes - 4) (drop 4 bytes)) ≡ payload_of bytes
-  payload_is e = let z : n - 0 ≡ u16_at bytes 0 = omega arith in ap (λ l. take (n - 0) l) after_is ∙ ap (λ k. take k (drop 4 bytes)) z
-
-  pub rest_is : n ≡ u16_at bytes 0 → take (length (take (length bytes - 4) (drop 4 bytes)) - n) (drop n (take (length bytes - 4) (drop 4 bytes))) ≡ rest_of bytes
-  rest_is e = take_rest (take (length bytes - 4) (drop 4 bytes)) n ∙ ap (λ l. drop n l) after_is ∙ drop-drop n 4 bytes ∙ ap (λ k. drop (4 + k) bytes) e
 
 -- every place holds a byte
 abbrev pub Bytes : List ℕ → Type 0
@@ -57,6 +40,3 @@ written_is bytes typed h =
     let kind : le16 (kind_of bytes) ≡ get_or bytes 2 0 ∷ get_or bytes 3 0 ∷ [] = le16_of (get_or bytes 2 0) (get_or bytes 3 0) (omega (arith, typed 2)) (omega (arith, typed 3)) in
     let back : payload_of bytes ++ rest_of bytes ≡ drop 4 bytes = ap (λ l. payload_of bytes ++ l) (sym (drop-drop (u16_at bytes 0) 4 bytes)) ∙ take-append-drop (u16_at bytes 0) (drop 4 bytes) in
     four bytes (omega (arith, long bytes h)) ∙ sym (ap (λ x. (x ++ (le16 (kind_of bytes) ++ payload_of bytes)) ++ rest_of bytes) front ∙ ap (λ x. ((get_or bytes 0 0 ∷ get_or bytes 1 0 ∷ []) ++ (x ++ payload_of bytes)) ++ rest_of bytes) kind ∙ ap (λ x. get_or bytes 0 0 ∷ get_or bytes 1 0 ∷ get_or bytes 2 0 ∷ get_or bytes 3 0 ∷ x) back)
-
-pub first : (bytes : List ℕ) → Bytes bytes → cut_short bytes ≡ false → (kind : ℕ) (payload rest : List ℕ) → kind ≡ kind_of bytes → payload ≡ payload_of bytes → rest ≡ rest_of bytes → First bytes kind payload rest
-first bytes typed h kind payload rest k p r = record { whole = h; kind_is = k; payload_is = p; rest_is = r; written = written_is bytes typed h ∙ sym (ap (λ x. record_bytes x payload ++ rest) k ∙ ap (λ x. record_bytes (kind_of bytes) x ++ rest) p ∙ ap (λ x. record_bytes (kind_of bytes) (payload_of bytes) ++ x) r) }

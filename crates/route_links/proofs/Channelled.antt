@@ -1,10 +1,9 @@
 -- Channels taken and given link by link.
-use Rattle.std.proofs.Common.{◌≡◌, ℕ, suc, ◌+◌, ◌-◌, ◌<◌, ◌≤◌, Bool, true, false, cond, eqb, ltb, List, [], ◌∷◌, ◌++◌, length, get_or, take, drop, Ok, Err, Result, sym, refl, ap, ◌∙◌, subst, inl, inr, arith, take-append-drop}
+use Rattle.std.proofs.Common.{◌≡◌, ℕ, suc, ◌+◌, ◌-◌, ◌<◌, ◌≤◌, Bool, true, false, cond, eqb, ltb, List, [], ◌∷◌, ◌++◌, length, get_or, take, drop, Ok, Err, sym, refl, ap, ◌∙◌, subst, inl, inr, arith, take-append-drop}
 use Rattle.std.proofs.lemmas.List.{get_or_past, take_more, drop_more}
 use Rattle.std.proofs.lemmas.Bool.{both_ways, cases_lt, cases_Bool, cases_eq, cond-true, cond-false, eq-eqb, ne_eqb, lt-ltb, le-ltb, ltb-true, ltb-false}
 use Rattle.costs.specs.Counting.{hit, occurs}
 use Rattle.networks.specs.declared.model.Link.{Link}
-use Rattle.networks.specs.declared.model.NetworkRefusal.{NetworkRefusal}
 use Rattle.networks.specs.declared.model.NetworkRefusal.TheVariants.{LinkTooHigh, NoneTaken}
 use Rattle.networks.specs.Meaning.{Net, no_link, link_at, usable}
 use Rattle.networks.specs.Changing.{retaken, numbered, changed, only}
@@ -154,7 +153,3 @@ next_take n route at lt free once m is =
       accepted = ap (λ x. take_answer x k) is ∙ t.0;
       after = ap (λ x. take_after x k) is ∙ t.1 ∙ ap (λ r. taken_along r n) (sym (take_more route at 0 lt));
     }
-
--- what is refused is not accepted
-pub accepted_refused : {e : NetworkRefusal} → ◌≡◌ {A = Result (Unit {0}) NetworkRefusal} (Err e) (Ok tt) → ⊥
-accepted_refused q = let z : ◌≡◌ {A = ℕ} 0 1 = cc in omega arith

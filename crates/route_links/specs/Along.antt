@@ -1,5 +1,5 @@
 -- What a route does to the channels of a network, and what its links measure together.
-use Rattle.std.specs.Prelude.{ℕ, ◌+◌, ◌-◌, List, [], ◌∷◌}
+use Rattle.std.specs.Prelude.{ℕ, ◌+◌, ◌-◌, List, sum_by}
 use Rattle.costs.specs.Counting.{occurs}
 use Rattle.networks.specs.Meaning.{Net, link_at}
 use Rattle.networks.specs.Changing.{changed, retaken}
@@ -12,15 +12,10 @@ taken_along route n = changed (λ k. retaken (λ t. t + occurs k route)) n
 abbrev pub given_along : List ℕ → Net → Net
 given_along route n = changed (λ k. retaken (λ t. t - occurs k route)) n
 
--- the sum of what each link of a route has
-abbrev pub summed : (ℕ → ℕ) → List ℕ → ℕ
-summed has [] = 0
-summed has (k ∷ ks) = has k + summed has ks
-
 -- the metres of a route's links together
 abbrev pub metres_along : Net → List ℕ → ℕ
-metres_along n route = summed (λ k. (link_at n k).metres) route
+metres_along n route = sum_by (λ k. (link_at n k).metres) route
 
 -- their pole metres together
 abbrev pub poles_along : Net → List ℕ → ℕ
-poles_along n route = summed (λ k. (link_at n k).poles) route
+poles_along n route = sum_by (λ k. (link_at n k).poles) route

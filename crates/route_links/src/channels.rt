@@ -13,11 +13,8 @@ pub fn take_route<N: Network>(network: &mut N, route: &[u16])
     ensures taken { N.Network.meaning network.new ≡ taken_along route.now (N.Network.meaning network.old) }
     ensures keeps { N.Network.kept network.old network.new }
 {
-    for at in 0..route.len() {
-        match network.take(route[at]) {
-            Ok(()) => {}
-            Err(_) => unreachable(),
-        }
+    for link in route {
+        network.take(*link).unwrap();
     }
 }
 
@@ -26,7 +23,8 @@ pub fn give_route<N: Network>(network: &mut N, route: &[u16])
     ensures given { N.Network.meaning network.new ≡ given_along route.now (N.Network.meaning network.old) }
     ensures keeps { N.Network.kept network.old network.new }
 {
-    for at in 0..route.len() {
-        let _ = network.give(route[at]);
+    // Its own loop beside that of a take: one that is passed the step would be longer than both.
+    for link in route {
+        let _ = network.give(*link);
     }
 }

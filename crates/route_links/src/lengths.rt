@@ -9,10 +9,7 @@ use networks::network::Network;
 fn lengths_of<N: Network>(network: &N, link: u16) -> (u32, u32)
     ensures { result ≡ ((link_at (N.Network.meaning network.now) link).metres, (link_at (N.Network.meaning network.now) link).poles) }
 {
-    match network.lengths(link) {
-        Ok(lengths) => lengths,
-        Err(_) => (0, 0),
-    }
+    network.lengths(link).unwrap_or((0, 0))
 }
 
 /// The metres and the pole metres of a route's links, each added up.
@@ -22,8 +19,8 @@ pub fn add_up<N: Network>(network: &N, route: &[u16]) -> (u32, u32)
 {
     let mut metres: u32 = 0;
     let mut poles: u32 = 0;
-    for at in 0..route.len() {
-        let lengths = lengths_of(network, route[at]);
+    for link in route {
+        let lengths = lengths_of(network, *link);
         metres += lengths.0;
         poles += lengths.1;
     }

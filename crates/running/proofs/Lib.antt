@@ -1,3 +1,2 @@
 -- Lemmas of the two runs.
 pub mod Runnables
-pub mod Reached

@@ -1,5 +1,5 @@
--- Both runs of a planning can be run.
-use Rattle.std.proofs.Common.{◌≡◌, ℕ, ◌<◌, ◌≤◌, true, not, ◌&&◌, eqb}
+-- Both runs of a planning can be run, and what they leave.
+use Rattle.std.proofs.Common.{◌≡◌, ℕ, ◌<◌, ◌≤◌, true, not, ◌&&◌, eqb, List, reverse, length, take, Some, None, Option, refl, subst}
 use Rattle.std.proofs.lemmas.Bool.{and_parts}
 use Rattle.costs.specs.Costs.{Ops, Laws}
 use Rattle.networks.specs.Meaning.{Net, Sound}
@@ -10,7 +10,11 @@ use Rattle.least_pairs.proofs.Sight.{SoundView}
 use Rattle.least_pairs.proofs.Seen.{view_sound, cost_size}
 use Rattle.least_pairs.proofs.Jobs.{first_sound, first_laws, second_sound, second_laws}
 use Rattle.least_pairs.proofs.Fitting.{sums_fit}
+use Rattle.least_pairs.specs.Runs.{Job, outcome}
+use Rattle.runs.specs.Tables.{Holds}
 use Rattle.runs.specs.Turns.{Runnable}
+use Rattle.stages.specs.First.{cut}
+use Rattle.running.specs.Left.{Left}
 
 -- a view with a link left out is sound where the whole is
 pub sound_without : {C : Type 0} {k : Ops C} (v : View C) → SoundView k v → (f : ℕ) → SoundView k (without f v)
@@ -67,3 +71,18 @@ module _ {C : Type 0} {k : Ops C} (laws : Laws k) (n : Net) (s : Sound n) (root 
   -- the second run over a network
   pub again_runnable : Runnable k (second_job k (view k n) root (first_run k (view k n) root)) root
   again_runnable = second_runnable laws (view k n) (view_sound laws n s) (cost_size laws n s) s.most_sites root inside
+
+  -- the first run over a network with a link left out or none
+  pub cut_runnable : (o : Option ℕ) → Runnable k (first_job (cut o (view k n))) root
+  cut_runnable None = whole_runnable
+  cut_runnable (Some f) = without_runnable f
+
+-- a link left out takes no site away
+pub cut_sites : {C : Type 0} (o : Option ℕ) (v : View C) → (cut o v).sites ≡ v.sites
+cut_sites None v = refl
+cut_sites (Some f) v = refl
+
+-- what a run leaves, by an equal job
+pub left_by : {C : Type 0} {k : Ops C} {i j : Job C} (root : ℕ) {costs : List C} {links turns settled : List ℕ} {number : ℕ} → i ≡ j → Holds k i.sites costs links turns (outcome k i root).labels → number ≡ length (outcome k i root).order → reverse (take number settled) ≡ (outcome k i root).order → Left k j.sites (outcome k j root) costs links turns settled number
+left_by {C} {k} {i} {j} root {costs} {links} {turns} {settled} {number} same labels count order =
+    subst (λ z. Left k z.sites (outcome k z root) costs links turns settled number) same (record { labels = labels; count = count; order = order })

@@ -4,4 +4,3 @@ pub mod Spending
 pub mod Turning
 pub mod Stepping
 pub mod Going
-pub mod Fitted

@@ -1,35 +1,40 @@
 -- One link more: what it leaves of the labels and of what is left to settle.
-use Rattle.std.proofs.Common.{◌≡◌, ℕ, ◌+◌, ◌<◌, ◌≤◌, Bool, true, false, cond, eqb, List, [], ◌∷◌, reverse, length, take, set, Some, None, Option, sym, refl, ap, ◌∙◌, subst, inl, inr, add-one, arith}
+use Rattle.std.proofs.Common.{◌≡◌, ℕ, ◌+◌, ◌<◌, ◌≤◌, Bool, true, false, cond, eqb, List, ◌∷◌, reverse, take, set, Some, None, Option, sym, refl, ap, ◌∙◌, subst, inl, inr, add-one, arith}
 use Rattle.std.proofs.lemmas.Bool.{cases_Bool}
-use Rattle.std.proofs.lemmas.List.{take_more_set, take-set, reverse-append}
+use Rattle.std.proofs.lemmas.List.{take-set}
+use Rattle.costs.specs.declared.kind.Cost.{Ghosts}
 use Rattle.costs.specs.Costs.{Ops, Laws, worked}
 use Rattle.least_pairs.specs.Runs.{Label, Job, has, improves, relabelled, offered, spread}
 use Rattle.runs.specs.Offers.{offers}
 use Rattle.queue.specs.declared.queues.Queue.{Queue}
 use Rattle.queue.specs.Queues.{held_in}
-use Rattle.runs.specs.Tables.{held}
+use Rattle.runs.specs.declared.tables.RunTables.{RunTables}
+use Rattle.runs.specs.Lent.{SameTables, labels_of}
 use Rattle.runs.specs.Turns.{Turn, Waiting, Offering, pending}
 use Rattle.runs.proofs.Spending.{open_end, pending_new}
 
 -- partway through the links of a turn: the labels are spread over the links below e, and the queue holds what is left to settle
-pub record Partway {C : Type 0} (k : Ops C) (j : Job C) (y : ℕ) (c : C) (S : List ℕ) (start labels : ℕ → Option (Label C)) (q : Queue C) (e : ℕ) : Type 0 where
+pub record Partway {C : Type 0} (k : Ops C) (j : Job C) (y : ℕ) (c : C) (S : List ℕ) (start labels : ℕ → Option (Label C)) {m : Ghosts C} (q : Queue C m) (e : ℕ) : Type 0 where
   pub reached : labels ≡ spread k j y c S start e
   pub waiting : Waiting k j.sites q labels (y ∷ S)
 
+-- partway through the links of a turn that began with some tables: they are the same lent ones, and no site more is settled
+pub record Turned {C : Type 0} (k : Ops C) (j : Job C) (y : ℕ) (c : C) (S : List ℕ) (start tables : RunTables C) {m : Ghosts C} (q : Queue C m) (e : ℕ) : Type 0 where
+  pub same : SameTables start tables
+  pub order : tables.order.now ≡ start.order.now
+  pub turn : Partway k j y c S (labels_of k start) (labels_of k tables) q e
+
 -- the same of equal tables
-pub partway_same : {C : Type 0} {k : Ops C} {j : Job C} {y : ℕ} {c : C} {S : List ℕ} {start : ℕ → Option (Label C)} {costs costs' : List C} {links links' turns turns' : List ℕ} {p q : Queue C} {e : ℕ}
-    → costs' ≡ costs → links' ≡ links → turns' ≡ turns → q ≡ p → Partway k j y c S start (held k costs links turns) p e → Partway k j y c S start (held k costs' links' turns') q e
-partway_same {C} {k} {j} {y} {c} {S} {start} {costs} {costs'} {links} {links'} {turns} {turns'} {p} {q} {e} a b d f h =
-    let tables : held k costs links turns ≡ held k costs' links' turns' = λ i. held k (sym a i) (sym b i) (sym d i) in
-    subst (λ z. Partway k j y c S start z q e) tables (subst (λ z. Partway k j y c S start (held k costs links turns) z e) (sym f) h)
+pub turned_same : {C : Type 0} {k : Ops C} {j : Job C} {y : ℕ} {c : C} {S : List ℕ} {start s t : RunTables C} {m : Ghosts C} {p q : Queue C m} {e : ℕ} → t ≡ s → q ≡ p → Turned k j y c S start s p e → Turned k j y c S start t q e
+turned_same {C} {k} {j} {y} {c} {S} {start} {s} {t} {m} {p} {q} {e} a b h = subst (λ z. Turned k j y c S start z q e) (sym a) (subst (λ z. Turned k j y c S start s z e) (sym b) h)
+
+-- what is the same as the same tables is the same
+pub same_then : {C : Type 0} {s t u : RunTables C} → SameTables s t → SameTables t u → SameTables s u
+same_then a b = record { sites = b.sites ∙ a.sites; costs = b.costs ∙ a.costs; links = b.links ∙ a.links; turns = b.turns ∙ a.turns; order = b.order ∙ a.order }
 
 -- what a turn needs, of an equal job and an equal list
 pub turn_same : {C : Type 0} {k : Ops C} {j i : Job C} {labels : ℕ → Option (Label C)} {y : ℕ} {c : C} {S T : List ℕ} → i ≡ j → T ≡ S → Turn k j labels y c S → Turn k i labels y c T
 turn_same {C} {k} {j} {i} {labels} {y} {c} {S} {T} p q t = subst (λ z. Turn k z labels y c T) (sym p) (subst (λ z. Turn k j labels y c z) (sym q) t)
-
--- an order table with one site more, read backwards
-pub order_more : (order : List ℕ) (n y : ℕ) → n < length order → reverse (take (n + 1) (set order n y)) ≡ y ∷ reverse (take n order)
-order_more order n y h = ap reverse (take_more_set order n y h) ∙ reverse-append (take n order) (y ∷ [])
 
 -- the sites before are as they were
 pub order_same : (order : List ℕ) (n y : ℕ) → reverse (take n (set order n y)) ≡ reverse (take n order)
@@ -59,10 +64,6 @@ module _ {C : Type 0} {k : Ops C} (laws : Laws k) (j : Job C) (labels : ℕ → 
   -- a link that offers nothing leaves the labels
   pub skipped : offers j y S e ≡ None → spread k j y c S labels (e + 1) ≡ before
   skipped h = ap (λ n. spread k j y c S labels n) (add-one e) ∙ ap (λ b. cond b (offered k j y c e before) before) (skips h)
-
-  -- where a link leads is a site
-  pub ends_in : (v : ℕ) (d : C) → offers j y S e ≡ Some (v, d) → v < j.sites
-  ends_in v d h = let t = takes v d h in subst (λ z. z < j.sites) (sym t.1) (turn.ends e below t.0)
 
   -- the sum worked out is exact
   sum_is : (v : ℕ) (d : C) → offers j y S e ≡ Some (v, d) → worked k c d ≡ k.plus c (j.adds e)
@@ -106,13 +107,13 @@ module _ {C : Type 0} {k : Ops C} (laws : Laws k) (j : Job C) (labels : ℕ → 
               ∙ sym (ap (λ x. cond x (cond (eqb w v) (Some (worked k c d)) (pending before (y ∷ S) w)) (pending before (y ∷ S) w)) is)
         ]
 
-  module _ (now_labels : ℕ → Option (Label C)) (p : Queue C) (at : Partway k j y c S labels now_labels p e) where
+  module _ (now_labels : ℕ → Option (Label C)) {m : Ghosts C} (p : Queue C m) (at : Partway k j y c S labels now_labels p e) where
     -- a link that is not considered leaves the turn where it is
     pub partway_skip : offers j y S e ≡ None → Partway k j y c S labels now_labels p (e + 1)
     partway_skip h = record { reached = at.reached ∙ sym (skipped h); waiting = at.waiting }
 
     -- a link that is considered takes the turn on
-    pub partway_take : (v : ℕ) (d : C) → offers j y S e ≡ Some (v, d) → (next : ℕ → Option (Label C)) (q : Queue C) → Offering k v (record { cost = worked k c d; link = e; turn = y }) now_labels next p q → Partway k j y c S labels next q (e + 1)
+    pub partway_take : (v : ℕ) (d : C) → offers j y S e ≡ Some (v, d) → (next : ℕ → Option (Label C)) (q : Queue C m) → Offering k v (record { cost = worked k c d; link = e; turn = y }) now_labels next p q → Partway k j y c S labels next q (e + 1)
     partway_take v d h next q o =
         let b : Bool = improves k (worked k c d) (before v) in
         let tested : improves k (worked k c d) (now_labels v) ≡ b = ap (λ f. improves k (worked k c d) (f v)) at.reached in
@@ -121,7 +122,6 @@ module _ {C : Type 0} {k : Ops C} (laws : Laws k) (j : Job C) (labels : ℕ → 
         record {
           reached = spread_on ∙ sym (stepped v d h b refl);
           waiting = record {
-            sound = o.sound;
             room = subst (λ z. j.sites ≤ z) (sym o.room) at.waiting.room;
             waits = λ w.
                 let held_before : held_in k p w ≡ pending before (y ∷ S) w = at.waiting.waits w ∙ ap (λ f. pending f (y ∷ S) w) at.reached in

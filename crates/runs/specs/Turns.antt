@@ -1,8 +1,9 @@
 -- What holds as a run goes on: what is left to settle, and what a turn needs.
 use Rattle.std.specs.Prelude.{◌≡◌, ℕ, ◌<◌, ◌≤◌, true, false, cond, List, ◌∷◌, Some, None, Option, ◌==◌}
+use Rattle.costs.specs.declared.kind.Cost.{Ghosts}
 use Rattle.costs.specs.Costs.{Ops, Le, worked}
 use Rattle.queue.specs.declared.queues.Queue.{Queue}
-use Rattle.queue.specs.Queues.{Sound, held_in, room_of}
+use Rattle.queue.specs.Queues.{held_in, room_of}
 use Rattle.least_pairs.specs.Runs.{Label, Job, has, improves, relabelled, outcome}
 use Rattle.least_pairs.specs.Laws.{Considered}
 
@@ -32,14 +33,12 @@ pub record Turn {C : Type 0} (k : Ops C) (j : Job C) (labels : ℕ → Option (L
   pub low : (x : ℕ) → has x (y ∷ S) ≡ true → (l : Label C) × (labels x ≡ Some l) × Le k l.cost c
 
 -- a queue with room for so many sites that holds those left to settle, each at its label's cost
-pub record Waiting {C : Type 0} (k : Ops C) (sites : ℕ) (q : Queue C) (labels : ℕ → Option (Label C)) (order : List ℕ) : Type 0 where
-  pub sound : Sound k q
+pub record Waiting {C : Type 0} (k : Ops C) (sites : ℕ) {m : Ghosts C} (q : Queue C m) (labels : ℕ → Option (Label C)) (order : List ℕ) : Type 0 where
   pub room : sites ≤ room_of q
   pub waits : (w : ℕ) → held_in k q w ≡ pending labels order w
 
 -- a label was offered to a site: where it improves that site's label it replaces it, and the site waits in the queue at its cost
-pub record Offering {C : Type 0} (k : Ops C) (v : ℕ) (l : Label C) (before after : ℕ → Option (Label C)) (p q : Queue C) : Type 0 where
+pub record Offering {C : Type 0} (k : Ops C) (v : ℕ) (l : Label C) (before after : ℕ → Option (Label C)) {m : Ghosts C} (p q : Queue C m) : Type 0 where
   pub labels : after ≡ cond (improves k l.cost (before v)) (relabelled before v l) before
   pub held : (w : ℕ) → held_in k q w ≡ cond (improves k l.cost (before v)) (cond (w == v) (Some l.cost) (held_in k p w)) (held_in k p w)
-  pub sound : Sound k q
   pub room : room_of q ≡ room_of p

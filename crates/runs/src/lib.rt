@@ -8,4 +8,4 @@ mod tables;
 
 pub use running::run;
 pub use stage::Stage;
-pub use tables::NONE;
+pub use tables::{NONE, RunTables};

@@ -1,58 +1,104 @@
-//! The tables of a run: the label of each site as a cost, a link and a turn.
-ghost use Rattle.std.specs.Prelude.{◌≡◌, ℕ, ◌<◌, ◌≤◌, List, length, if◌then◌else◌};
+//! The lent tables of a run: the label of each site as a cost, a link and a turn, and the settled sites in their order.
+ghost use Rattle.std.specs.Prelude.{◌≡◌, ◌<◌, ◌≤◌, length, slice_set, if◌then◌else◌};
 ghost use Rattle.least_pairs.specs.Runs.{improves, relabelled, begun};
 ghost use Rattle.runs.specs.Tables.{held};
+ghost use Rattle.runs.specs.Turns.{costed};
 
 use costs::Cost;
 
-/// The entry that stands for none.
+/// The entry that stands for none: the tables are plain u16, since a C program may lend them.
 pub const NONE: u16 = 65535;
 
-/// Fills the tables for a beginning: only the root has a label, which costs zero.
-pub fn begin<C: Cost + Copy>(root: u16, costs: &mut [C], links: &mut [u16], turns: &mut [u16])
-    requires { (root < length costs.old) × ((root < length links.old) × (root < length turns.old)) }
-    ensures { held C.Cost.ops costs.new links.new turns.new ≡ (begun C.Cost.ops root).labels }
-{
-    links.fill(NONE);
-    let at = root as usize;
-    costs[at] = C::zero();
-    links[at] = 0;
-    turns[at] = root;
+/// The lent tables of a run: by site the cost, the link and the turn of its label, and the settled sites in their order. Each has room for so many sites.
+// Tables side by side, lent as plain slices: a C program may lend them.
+#[derive(Drop)]
+pub struct RunTables<'a, C> {
+    pub sites: u16,
+    pub costs: &'a mut [C],
+    pub links: &'a mut [u16],
+    pub turns: &'a mut [u16],
+    pub order: &'a mut [u16],
+    pub ghost all_costs: { sites ≤ length costs.now },
+    pub ghost all_links: { sites ≤ length links.now },
+    pub ghost all_turns: { sites ≤ length turns.now },
+    pub ghost all_settled: { sites ≤ length order.now },
 }
 
-/// Whether a cost is less than that of a site's label, or the site has none.
-fn is_better<C: Cost + Copy>(site: u16, cost: C, costs: &[C], links: &[u16]) -> bool
-    requires { (site < length costs.now) × (site < length links.now) }
-    ensures { (turns : List ℕ) → result ≡ improves C.Cost.ops cost (held C.Cost.ops costs.now links.now turns site) }
-{
-    let at = site as usize;
-    if links[at] == NONE {
-        return true;
-    }
-    cost.less(costs[at])
+/// A label: its cost, the link that gave it, and the site that was settled then.
+#[derive(Clone, Copy)]
+pub struct Label<C> {
+    pub cost: C,
+    pub link: u16,
+    pub turn: u16,
 }
 
-/// Offers a label to a site, which takes it where it costs less than its own, or it has none. Says whether it did.
-pub fn relax<C: Cost + Copy>(
-    site: u16,
-    cost: C,
-    link: u16,
-    turn: u16,
-    costs: &mut [C],
-    links: &mut [u16],
-    turns: &mut [u16],
-) -> bool
-    requires within { (site < length costs.old) × ((site < length links.old) × (site < length turns.old)) }
-    requires real { link < 65535 }
-    ensures answer { result ≡ improves C.Cost.ops cost (held C.Cost.ops costs.old links.old turns.old site) }
-    ensures after { held C.Cost.ops costs.new links.new turns.new ≡ (if result then relabelled (held C.Cost.ops costs.old links.old turns.old) site (record { cost = cost; link = link; turn = turn }) else held C.Cost.ops costs.old links.old turns.old) }
-{
-    let at = site as usize;
-    let better = is_better(site, cost, costs, links);
-    if better {
-        costs[at] = cost;
-        links[at] = link;
-        turns[at] = turn;
+impl<'a, C: Cost + Copy> RunTables<'a, C> {
+    ghost use Rattle.runs.specs.Lent.{SameTables, labels_of};
+
+    /// Fills the tables for a beginning: only the root has a label, which costs zero.
+    pub(crate) fn begin(&mut self, root: u16)
+        requires { root < self.old.sites }
+        ensures same { SameTables self.old self.new }
+        ensures labels { labels_of C.Cost.ops self.new ≡ (begun C.Cost.ops root).labels }
+    {
+        self.links.fill(NONE);
+        let label = Label {
+            cost: C::zero(),
+            link: 0,
+            turn: root,
+        };
+        self.write(root, label);
     }
-    better
+
+    /// Gives a site a label.
+    fn write(&mut self, site: u16, label: Label<C>)
+        requires within { site < self.old.sites }
+        requires real { label.link < 65535 }
+        ensures same { SameTables self.old self.new }
+        ensures order { self.new.order.now ≡ self.old.order.now }
+        ensures labels { labels_of C.Cost.ops self.new ≡ relabelled (labels_of C.Cost.ops self.old) site (record { cost = label.cost; link = label.link; turn = label.turn }) }
+    {
+        let at = site as usize;
+        self.costs[at] = label.cost;
+        self.links[at] = label.link;
+        self.turns[at] = label.turn;
+    }
+
+    /// The cost of a site's label, if it has one.
+    fn cost_of(&self, site: u16) -> Option<C>
+        requires { site < self.now.sites }
+        ensures { result ≡ costed (labels_of C.Cost.ops self.now site) }
+    {
+        let at = site as usize;
+        if self.links[at] == NONE {
+            return None;
+        }
+        Some(self.costs[at])
+    }
+
+    /// Offers a label to a site, which takes it where it costs less than its own, or it has none. Says whether it did.
+    pub(crate) fn relax(&mut self, site: u16, label: Label<C>) -> bool
+        requires within { site < self.old.sites }
+        requires real { label.link < 65535 }
+        ensures same { SameTables self.old self.new }
+        ensures order { self.new.order.now ≡ self.old.order.now }
+        ensures answer { result ≡ improves C.Cost.ops label.cost (labels_of C.Cost.ops self.old site) }
+        ensures after { labels_of C.Cost.ops self.new ≡ (if result then relabelled (labels_of C.Cost.ops self.old) site (record { cost = label.cost; link = label.link; turn = label.turn }) else labels_of C.Cost.ops self.old) }
+    {
+        let better = self.cost_of(site).is_none_or(|cost| label.cost.less(cost));
+        if better {
+            self.write(site, label);
+        }
+        better
+    }
+
+    /// Puts a settled site after so many others.
+    pub(crate) fn settle(&mut self, count: u16, site: u16)
+        requires { count < self.old.sites }
+        ensures same { SameTables self.old self.new }
+        ensures order { self.new.order.now ≡ slice_set self.old.order.now count site }
+        ensures labels { labels_of C.Cost.ops self.new ≡ labels_of C.Cost.ops self.old }
+    {
+        self.order[count as usize] = site;
+    }
 }

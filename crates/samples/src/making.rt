@@ -15,18 +15,6 @@ const LINKS: [(u16, u16, u32, u32); 7] = [
     (4, 5, 100, 0),
 ];
 
-fn link(start: u16, end: u16, metres: u32, poles: u32, channels: u16) -> Link {
-    Link {
-        start,
-        end,
-        metres,
-        poles,
-        channels,
-        taken: 0,
-        lit: true,
-    }
-}
-
 /// The exchange's header, which says seven links, its names, and its first links, as many as are asked for.
 pub fn exchange(heap: Global, links: usize) -> Result<Vec<u8>, WriteFault> {
     let mut out = Vec::new(heap);
@@ -38,7 +26,7 @@ pub fn exchange(heap: Global, links: usize) -> Result<Vec<u8>, WriteFault> {
     push_name(&mut out, 5, b"Weir")?;
     for numbers in LINKS.iter().take(links) {
         let (start, end, metres, poles) = *numbers;
-        push_link(&mut out, link(start, end, metres, poles, 1))?;
+        push_link(&mut out, Link::lit(start, end, metres, poles, 1))?;
     }
     Ok(out)
 }
@@ -61,7 +49,7 @@ pub fn largest(heap: Global) -> Result<Vec<u8>, WriteFault> {
     for k in 0..2048u16 {
         let start = k % 256;
         let end = (k + 1 + k / 256) % 256;
-        push_link(&mut out, link(start, end, 1_000_000, 1_000_000, 255))?;
+        push_link(&mut out, Link::lit(start, end, 1_000_000, 1_000_000, 255))?;
     }
     Ok(out)
 }
@@ -93,6 +81,6 @@ pub fn too_many_sites(heap: Global) -> Result<Vec<u8>, WriteFault> {
 
 pub fn too_many_links(heap: Global) -> Result<Vec<u8>, WriteFault> {
     let mut out = exchange(heap, 7)?;
-    push_link(&mut out, link(5, 0, 1, 0, 1))?;
+    push_link(&mut out, Link::lit(5, 0, 1, 0, 1))?;
     Ok(out)
 }

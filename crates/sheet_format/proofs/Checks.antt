@@ -1,11 +1,12 @@
 -- The order of the checks, one case at a time, and what a passed check says.
 use Rattle.std.proofs.Common.{◌≡◌, ℕ, ◌<◌, ◌≤◌, true, false, eqb, List, length, Some, None, ◌∙◌, arith}
-use Rattle.std.proofs.lemmas.Bool.{cond-true, cond-false, eq-eqb, ne_eqb, and_parts, leb-true, ltb-true}
+use Rattle.std.proofs.lemmas.Bool.{cond-true, cond-false, eq-eqb, ne_eqb}
+use Rattle.std.proofs.lemmas.Bool.Decides.{nat_tests}
 use Rattle.networks.specs.declared.model.Link.{Link}
 use Rattle.networks.specs.Meaning.{link_sound}
 use Rattle.records.specs.Bytes.{cut_short, kind_of, payload_of}
 use Rattle.sheet_format.specs.Items.{Item, shaped, item_of}
-use Rattle.sheet_format.specs.Rules.{whole_record, right_shape, right_order, within_limits, link_count, Before, header_sound, in_order, within, counted, refused, unfinished, broken}
+use Rattle.sheet_format.specs.Rules.{whole_record, right_shape, Before, header_sound, in_order, within, counted, refused, unfinished, broken}
 
 module _ (b : Before) (rest : List ℕ) where
   pub broken_end : length rest ≡ 0 → broken b rest ≡ unfinished b
@@ -24,15 +25,6 @@ module _ (b : Before) (rest : List ℕ) where
   broken_record h c s = cond-false _ _ _ (more h) ∙ cond-false _ _ _ c ∙ cond-true _ _ _ s
 
 module _ (b : Before) (x : Item) where
-  pub refused_order : in_order b x ≡ false → refused b x ≡ Some right_order
-  refused_order h = cond-false _ _ _ h
-
-  pub refused_limits : in_order b x ≡ true → within b x ≡ false → refused b x ≡ Some within_limits
-  refused_limits h i = cond-true _ _ _ h ∙ cond-false _ _ _ i
-
-  pub refused_count : in_order b x ≡ true → within b x ≡ true → counted b x ≡ false → refused b x ≡ Some link_count
-  refused_count h i j = cond-true _ _ _ h ∙ cond-true _ _ _ i ∙ cond-false _ _ _ j
-
   pub refused_none : in_order b x ≡ true → within b x ≡ true → counted b x ≡ true → refused b x ≡ None
   refused_none h i j = cond-true _ _ _ h ∙ cond-true _ _ _ i ∙ cond-true _ _ _ j
 
@@ -47,21 +39,13 @@ pub record LinkLimits (sites : ℕ) (l : Link) : Type 0 where
 pub link_limits : (sites : ℕ) (l : Link) → link_sound sites l ≡ true → LinkLimits sites l
 unfolding link_sound
 link_limits sites l h =
-    let p = and_parts _ _ h in
-    let q = and_parts _ _ p.0 in
-    let ends = and_parts _ _ (and_parts _ _ q.0).0 in
-    let lengths = and_parts _ _ q.1 in
-    let metres = and_parts _ _ lengths.0 in
-    let channels = and_parts _ _ (and_parts _ _ p.1).0 in
     record {
-      start_in = ltb-true _ _ ends.0;
-      end_in = ltb-true _ _ ends.1;
-      metres_in = leb-true _ _ metres.1;
-      poles_in = leb-true _ _ lengths.1;
-      channels_in = leb-true _ _ channels.1;
+      start_in = grind (arith, nat_tests);
+      end_in = grind (arith, nat_tests);
+      metres_in = grind (arith, nat_tests);
+      poles_in = grind (arith, nat_tests);
+      channels_in = grind (arith, nat_tests);
     }
 
 pub header_limits : (sites count : ℕ) → header_sound sites count ≡ true → (sites ≤ 256) × (count ≤ 2048)
-header_limits sites count h =
-    let p = and_parts _ _ h in
-    (leb-true _ _ (and_parts _ _ p.0).1, leb-true _ _ p.1)
+header_limits sites count h = (grind (arith, nat_tests), grind (arith, nat_tests))

@@ -1,5 +1,5 @@
 -- Reading as a run from record to record, which comes to one outcome.
-use Rattle.std.proofs.Common.{◌≡◌, ℕ, ◌+◌, ◌<◌, List, ◌++◌, length, Some, None, Option, sym, ap, ◌∙◌, subst, arith}
+use Rattle.std.proofs.Common.{◌≡◌, ℕ, ◌+◌, ◌<◌, List, ◌++◌, length, Some, None, sym, ap, ◌∙◌, subst, arith}
 use Rattle.records.specs.Bytes.{u16_at, kind_of, payload_of, rest_of}
 use Rattle.sheet_format.specs.Items.{Item, bytes_of, item_of}
 use Rattle.sheet_format.specs.Rules.{Rule, Fields, Before, begun, refused, broken, added}
@@ -12,17 +12,14 @@ pub data Runs : Before → List ℕ → ℕ → Outcome → Type 0 where
   ends : {b : Before} {rest : List ℕ} {p : ℕ} {o : Outcome} (f : Fields) → broken b rest ≡ None → length rest ≡ 0 → b ≡ begun f → o ≡ sheet f → Runs b rest p o
   goes : {b : Before} {rest : List ℕ} {p : ℕ} {o : Outcome} → broken b rest ≡ None → 0 < length rest → Runs (added b (item_of (kind_of rest) (payload_of rest))) (rest_of rest) (p + (4 + u16_at rest 0)) o → Runs b rest p o
 
-clash : (o : Option Rule) (r : Rule) → o ≡ Some r → o ≡ None → ⊥
-clash o r p q = let z : ◌≡◌ {A = ℕ} 0 1 = cc in omega arith
-
 pub one_outcome : {b : Before} {rest : List ℕ} {p : ℕ} {x y : Outcome} → Runs b rest p x → Runs b rest p y → x ≡ y
 one_outcome (stops r e q) (stops r' e' q') = cc
-one_outcome (stops r e q) (ends f e' n i q') = absurd (clash _ r e e')
-one_outcome (stops r e q) (goes e' n t) = absurd (clash _ r e e')
-one_outcome (ends f e n i q) (stops r e' q') = absurd (clash _ r e' e)
+one_outcome (stops r e q) (ends f e' n i q') = cc
+one_outcome (stops r e q) (goes e' n t) = cc
+one_outcome (ends f e n i q) (stops r e' q') = cc
 one_outcome (ends f e n i q) (ends f' e' n' i' q') = cc
 one_outcome (ends f e n i q) (goes e' n' t) = absurd (omega arith)
-one_outcome (goes e n t) (stops r e' q') = absurd (clash _ r e' e)
+one_outcome (goes e n t) (stops r e' q') = cc
 one_outcome (goes e n t) (ends f e' n' i q) = absurd (omega arith)
 one_outcome (goes e n t) (goes e' n' t') = one_outcome t t'
 

@@ -1,9 +1,11 @@
 -- One record more: what was read stays lawful, and its bytes are those before it and then its own.
-use Rattle.std.proofs.Common.{◌≡◌, ℕ, ◌+◌, ◌<◌, ◌≤◌, Bool, true, false, cond, ◌&&◌, eqb, leb, ◌⊎◌, List, [], ◌∷◌, ◌++◌, length, drop, Some, None, Option, sym, refl, ap, ◌∙◌, subst, inl, inr, ⊎_elim, append_assoc, append-nil, arith, length-append, length-drop}
+use Rattle.std.proofs.Common.{◌≡◌, ℕ, ◌+◌, ◌<◌, ◌≤◌, Bool, true, cond, ◌⊎◌, List, [], ◌∷◌, ◌++◌, length, drop, Some, None, Option, sym, refl, ap, ◌∙◌, subst, ⊎_elim, append_assoc, append-nil, arith, length-append, length-drop}
 use Rattle.std.specs.List.{flat_map}
 use Rattle.std.proofs.slice.Lists.{all_by_recursion_push}
 use Rattle.std.proofs.lemmas.List.{flat_map_more, drop_all, nil_from_length}
-use Rattle.std.proofs.lemmas.Bool.{and_parts, and_from, leb-true, ltb-true, eqb-true, or_cases, false≢true}
+use Rattle.std.proofs.lemmas.Bool.{and_parts, and_from, leb-true, ltb-true, eqb-true, false≢true}
+use Rattle.std.proofs.lemmas.List.Recursion.{and_push}
+use Rattle.std.proofs.lemmas.Bool.Decides.{nat_tests}
 use Rattle.networks.specs.declared.model.Link.{Link}
 use Rattle.networks.specs.Meaning.{link_sound, all_sound}
 use Rattle.records.specs.Bytes.{le16, le32, u16_at, u32_at, record_bytes}
@@ -14,21 +16,9 @@ use Rattle.sheet_format.specs.Rules.{Rule, Before, unbegun, begun, next_site, in
 use Rattle.sheet_format.specs.Sheets.{GoodName, Rising, Unused, written_before, LawfulBefore}
 use Rattle.sheet_format.proofs.Back.{Fitting}
 
-pub clash : (r : Rule) → ◌≡◌ {A = Option Rule} (Some r) None → ⊥
-clash r h = let z : ◌≡◌ {A = ℕ} 0 1 = cc in omega arith
-
-cons≢nil : {l : Link} {ls : List Link} → l ∷ ls ≡ [] → ⊥
-cons≢nil h = let z : ◌≡◌ {A = ℕ} 0 1 = cc in omega arith
-
 -- the three kinds of a fitting payload
 by_kind : (kind size : ℕ) → shaped kind size ≡ true → ((kind ≡ 1) × (size ≡ 4)) ⊎ (((kind ≡ 2) × (3 ≤ size) × (size ≤ 34)) ⊎ ((kind ≡ 3) × (size ≡ 14)))
-by_kind kind size h =
-    ⊎_elim (λ t. let p = and_parts (eqb kind 1) (eqb size 4) t in inl (eqb-true _ _ p.0, eqb-true _ _ p.1))
-    (λ u. ⊎_elim
-    (λ t. let p = and_parts (eqb kind 2) (leb 3 size && leb size 34) t in let q = and_parts (leb 3 size) (leb size 34) p.1 in inr (inl (eqb-true _ _ p.0, leb-true _ _ q.0, leb-true _ _ q.1)))
-    (λ t. let p = and_parts (eqb kind 3) (eqb size 14) t in inr (inr (eqb-true _ _ p.0, eqb-true _ _ p.1)))
-    (or_cases _ _ u))
-    (or_cases _ _ h)
+by_kind kind size h = grind (arith, nat_tests)
 
 -- a payload of a fitting size is the writing of its record
 WholeItem : ℕ → List ℕ → Type 0
@@ -79,10 +69,7 @@ proper_item kind p h =
     (by_kind kind (length p) h)
 
 all_three : (p q r : Bool) (x y z : Rule) → ◌≡◌ {A = Option Rule} (cond p (cond q (cond r None (Some x)) (Some y)) (Some z)) None → (p ≡ true) × (q ≡ true) × (r ≡ true)
-all_three true true true x y z h = (refl, refl, refl)
-all_three true true false x y z h = absurd (clash x h)
-all_three true false r x y z h = absurd (clash y h)
-all_three false q r x y z h = absurd (clash z h)
+all_three p q r x y z h = grind arith
 
 -- a record that breaks no rule passes the three checks
 pub passes : (b : Before) (x : Item) → refused b x ≡ None → (in_order b x ≡ true) × (within b x ≡ true) × (counted b x ≡ true)
@@ -93,8 +80,7 @@ rising_push from [] n r h = (h, tt)
 rising_push from (m ∷ ns) n r h = (r.0, rising_push (m.site + 1) ns n r.1 h)
 
 sound_push : (s : ℕ) (ls : List Link) (l : Link) → all_sound s ls ≡ true → link_sound s l ≡ true → all_sound s (ls ++ l ∷ []) ≡ true
-sound_push s [] l h k = and_from _ _ k refl
-sound_push s (m ∷ ls) l h k = let p = and_parts _ _ h in and_from _ _ p.0 (sound_push s ls l p.1 k)
+sound_push s ls l h k = and_push (all_sound s) (link_sound s) refl (λ _ _. refl) ls l ∙ and_from _ _ h k
 
 -- what came before and the record stay lawful
 pub grows : (b : Before) (x : Item) → LawfulBefore b → Proper x → refused b x ≡ None → LawfulBefore (added b x)
@@ -127,7 +113,7 @@ grows (begun f) (link l) law fits none =
 after_names : (h : List ℕ) (ns : List Named) (n : Named) (ls : List Link) → ls ≡ [] → h ++ (flat_map (λ m. bytes_of (name m)) (ns ++ n ∷ []) ++ flat_map (λ l. bytes_of (link l)) ls) ≡ (h ++ (flat_map (λ m. bytes_of (name m)) ns ++ flat_map (λ l. bytes_of (link l)) ls)) ++ bytes_of (name n)
 after_names h ns n [] e =
     ap (λ l. h ++ l) (append-nil _ ∙ sym (flat_map_more (λ m. bytes_of (name m)) [] ns n)) ∙ sym (append_assoc h (flat_map (λ m. bytes_of (name m)) ns) (bytes_of (name n))) ∙ ap (λ l. (h ++ l) ++ bytes_of (name n)) (sym (append-nil (flat_map (λ m. bytes_of (name m)) ns)))
-after_names h ns n (l ∷ ls) e = absurd (cons≢nil e)
+after_names h ns n (l ∷ ls) e = cc
 
 -- and its bytes come after theirs
 pub written_more : (b : Before) (x : Item) → refused b x ≡ None → written_before (added b x) ≡ written_before b ++ bytes_of x

@@ -5,27 +5,24 @@ use Rattle.std.proofs.lemmas.Bool.{cond-false, ne_eqb, eqb-true, cases_eq}
 use Rattle.records.specs.Bytes.{u16_at, cut_short, kind_of, payload_of, rest_of}
 use Rattle.records.proofs.Cutting.{Bytes, bytes_take, bytes_drop, written_is}
 use Rattle.sheet_format.specs.Items.{bytes_of, shaped, item_of}
-use Rattle.sheet_format.specs.Rules.{Rule, whole_record, Before, unbegun, begun, refused, broken, added}
+use Rattle.sheet_format.specs.Rules.{Rule, Before, unbegun, begun, refused, broken, added}
 use Rattle.sheet_format.specs.Sheets.{written, written_before, LawfulBefore, Outcome, sheet, fault, Means}
 use Rattle.sheet_format.proofs.Checks.{broken_end}
-use Rattle.sheet_format.proofs.Steps.{clash, whole_item, proper_item, grows, written_more}
+use Rattle.sheet_format.proofs.Steps.{whole_item, proper_item, grows, written_more}
 
 all_passed : (c s : Bool) (r : Option Rule) (x y : Rule) → cond c (Some x) (cond s r (Some y)) ≡ None → (c ≡ false) × (s ≡ true) × (r ≡ None)
-all_passed true s r x y h = absurd (clash x h)
-all_passed false true r x y h = (refl, refl, h)
-all_passed false false r x y h = absurd (clash y h)
+all_passed c s r x y h = grind arith
 
 -- bytes that break no rule begin with a record that is taken
 passed : (b : Before) (rest : List ℕ) → (length rest ≡ 0 → ⊥) → broken b rest ≡ None → (cut_short rest ≡ false) × (shaped (kind_of rest) (length (payload_of rest)) ≡ true) × (refused b (item_of (kind_of rest) (payload_of rest)) ≡ None)
 passed b rest some h = all_passed _ _ _ _ _ (sym (cond-false _ _ _ (ne_eqb _ _ some)) ∙ h)
 
 count_right : (t : Bool) (r : Rule) → ◌≡◌ {A = Option Rule} (cond t None (Some r)) None → t ≡ true
-count_right true r h = refl
-count_right false r h = absurd (clash r h)
+count_right t r h = grind arith
 
 -- where no byte is left
 at_end : (bytes rest : List ℕ) (b : Before) → LawfulBefore b → bytes ≡ written_before b ++ rest → length rest ≡ 0 → broken b rest ≡ None → (x : Outcome) × Means bytes x
-at_end bytes rest unbegun law split none h = absurd (clash whole_record (sym (broken_end unbegun rest none) ∙ h))
+at_end bytes rest unbegun law split none h = cc (broken_end unbegun rest none)
 at_end bytes rest (begun f) law split none h =
     let same : length f.links ≡ f.count = eqb-true _ _ (count_right _ _ (sym (broken_end (begun f) rest none) ∙ h)) in
     (sheet f, (record { beginning = law; complete = same }, split ∙ ap (λ l. written f ++ l) (nil_from_length rest none) ∙ append-nil (written f)))

@@ -1,6 +1,7 @@
 -- The records of a sheet, and the bytes that write them.
 use Rattle.std.specs.Prelude.{ℕ, Bool, true, cond, ◌&&◌, ◌||◌, List, ◌++◌, drop, ◌==◌, nat_le}
 use Rattle.networks.specs.declared.model.Link.{Link}
+use Rattle.networks.specs.Meaning.{lit_link}
 use Rattle.records.specs.Bytes.{le16, le32, u16_at, u32_at, record_bytes}
 
 -- A site and its name, as bytes.
@@ -23,10 +24,6 @@ bytes_of (link l) = record_bytes 3 (le16 l.start ++ (le16 l.end ++ (le32 l.metre
 -- Whether a payload of so many bytes fits the kind: 4 bytes for a header, 3 to 34 for a name, 14 for a link.
 abbrev pub shaped : ℕ → ℕ → Bool
 shaped kind size = (kind == 1 && size == 4) || ((kind == 2 && (nat_le 3 size && nat_le size 34)) || (kind == 3 && size == 14))
-
--- A link as a sheet gives it: lit, and no channel taken.
-abbrev pub lit_link : ℕ → ℕ → ℕ → ℕ → ℕ → Link
-lit_link start end metres poles channels = record { start = start; end = end; metres = metres; poles = poles; channels = channels; taken = 0; lit = true }
 
 -- The record that a payload of a fitting size writes.
 abbrev pub item_of : ℕ → List ℕ → Item

@@ -8,7 +8,7 @@ use Rattle.sheet_records.specs.declared.record.Placed.{Placed}
 use Rattle.sheet_records.specs.Records.{item, Found}
 
 -- the bytes left, where there are some
-pub some_left : (sheet left : List ℕ) (place : ℕ) → left ≡ drop place sheet → eqb (length left) 0 ≡ false → 0 < length (drop place sheet)
+some_left : (sheet left : List ℕ) (place : ℕ) → left ≡ drop place sheet → eqb (length left) 0 ≡ false → 0 < length (drop place sheet)
 some_left sheet left place same h = let ne = eqb-false (length left) 0 h in let e = ap length same in omega arith
 
 -- a record that was cut off and is of the right shape
@@ -16,13 +16,10 @@ module _ (sheet left : List ℕ) (place : ℕ) (same : left ≡ drop place sheet
   length_left : length left ≡ length (record_bytes kind payload) + length rest
   length_left = ap length first.written ∙ length-append (record_bytes kind payload) rest
 
-  pub rest_short : length rest ≤ length sheet
-  rest_short = omega (arith, length_left, ap length same, length-drop place sheet)
-
-  pub cut_whole : cut_short (drop place sheet) ≡ false
+  cut_whole : cut_short (drop place sheet) ≡ false
   cut_whole = ap cut_short (sym same) ∙ first.whole
 
-  pub same_shape : shaped kind (length payload) ≡ shaped (kind_of (drop place sheet)) (length (payload_of (drop place sheet)))
+  same_shape : shaped kind (length payload) ≡ shaped (kind_of (drop place sheet)) (length (payload_of (drop place sheet)))
   same_shape = (λ i. shaped (first.kind_is i) (length (first.payload_is i))) ∙ ap (λ l. shaped (kind_of l) (length (payload_of l))) same
 
   pub found : (p : Placed) → p.place ≡ place → eqb (length left) 0 ≡ false → shaped kind (length payload) ≡ true → item p.record ≡ item_of kind payload → bytes_of (item p.record) ≡ record_bytes kind payload → Found (drop place sheet) place p (length sheet - length rest)

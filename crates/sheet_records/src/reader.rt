@@ -34,12 +34,8 @@ impl<'a> RecordReader<'a> {
         if left.is_empty() {
             return Ok(None);
         }
-        let Some(head) = first_record(left) else {
-            return Err(RecordFault::CutShort { place });
-        };
-        let Some(record) = record_of(head.kind, head.payload) else {
-            return Err(RecordFault::WrongShape { place });
-        };
+        let head = first_record(left).ok_or(RecordFault::CutShort { place })?;
+        let record = record_of(head.kind, head.payload).ok_or(RecordFault::WrongShape { place })?;
         self.place = sheet.len() - head.rest.len();
         Ok(Some(Placed { place, record }))
     }

@@ -5,18 +5,21 @@
 mod tests {
     use networks::model::Link;
     use networks::network::Network;
-    use refusals::Carried;
+    use records::WriteFault;
+    use refusals::{Carried, Refusal};
     use sheet_writing::{SiteName, write};
+    use sheets::faults::SheetFault;
     use sheets::reading::read;
     use std::alloc::Global;
     use std::test::Fail;
 
     // The number of the fault that reading some bytes comes to, and its place; 0 and 0 for a sheet, 255 for want of memory.
+    // Plain numbers, so that each case below is one line of bytes, number and place.
     fn told(heap: Global, bytes: &[u8]) -> (u8, usize) {
         let Err(fault) = read(heap, bytes) else {
             return (0, 0);
         };
-        let Some(refusal) = fault.refusal() else {
+        let Ok(refusal) = Refusal::try_from(fault) else {
             return (255, 0);
         };
         match refusal.value() {
@@ -308,6 +311,25 @@ mod tests {
         assert!(rt; sheet.names.name(1).is_none());
         let last = sheet.names.name(2).ok_or("no name")?;
         assert_eq!(rt; last, b"Cuxhaven".as_slice());
+        Ok(())
+    }
+
+    // A fault prints its rule, or that memory is wanting.
+    #[test]
+    fn faults_printed(rt: HostRuntime) -> Result<(), Fail> {
+        let heap = rt.alloc();
+        let fault = read(heap, b"").err().ok_or("a sheet")?;
+        let cut_short = fault.to_string(heap)?;
+        let out_of_order = SheetFault::OutOfOrder { place: 8 }.to_string(heap)?;
+        let wanting = SheetFault::Memory.to_string(heap)?;
+        let too_long = WriteFault::TooLong.to_string(heap)?;
+        assert_eq!(rt;
+            cut_short.as_str(),
+            "fewer than 4 bytes are left, or the payload is cut short"
+        );
+        assert_eq!(rt; out_of_order.as_str(), "the record is out of order");
+        assert_eq!(rt; wanting.as_str(), "memory is wanting");
+        assert_eq!(rt; too_long.as_str(), "a payload is longer than 65535 bytes");
         Ok(())
     }
 }

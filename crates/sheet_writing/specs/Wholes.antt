@@ -1,11 +1,10 @@
 -- Writing a whole sheet.
-use Rattle.std.specs.Prelude.{◌≡◌, ℕ, ◌+◌, Bool, true, false, ◌||◌, List, [], ◌∷◌, ◌++◌, length, Ok, Err, vec_items, Result, Vec, nat_le, nat_lt}
+use Rattle.std.specs.Prelude.{◌≡◌, ℕ, ◌+◌, Bool, true, false, ◌||◌, List, [], ◌∷◌, length, Ok, Err, vec_items, Result, Vec, nat_le, nat_lt}
 use Rattle.std.specs.declared.alloc.Global.{Global}
-use Rattle.std.specs.List.{flat_map}
 use Rattle.networks.specs.declared.model.Link.{Link}
-use Rattle.records.specs.declared.WriteFault.{WriteFault}
-use Rattle.records.specs.declared.WriteFault.TheVariants.{TooLong, Memory}
-use Rattle.sheet_format.specs.Items.{Named, name, link, bytes_of}
+use Rattle.records.specs.declared.writing.WriteFault.{WriteFault}
+use Rattle.records.specs.declared.writing.WriteFault.TheVariants.{TooLong, Memory}
+use Rattle.sheet_format.specs.Items.{Named}
 use Rattle.sheet_format.specs.Rules.{Fields}
 use Rattle.sheet_format.specs.Sheets.{written}
 use Rattle.sheet_writing.specs.declared.SiteName.{SiteName}
@@ -14,24 +13,10 @@ use Rattle.sheet_writing.specs.declared.SiteName.{SiteName}
 abbrev pub named : SiteName → Named
 named n = record { site = n.site; name = n.name.now }
 
--- The bytes of some names.
-abbrev pub names_bytes : List Named → List ℕ
-names_bytes ns = flat_map (λ n. bytes_of (name n)) ns
-
--- The bytes of some links.
-abbrev pub links_bytes : List Link → List ℕ
-links_bytes ls = flat_map (λ l. bytes_of (link l)) ls
-
 -- Whether one of the names is too long for a record's length.
 abbrev pub long_name : List Named → Bool
 long_name [] = false
 long_name (n ∷ ns) = nat_le 65536 (2 + length n.name) || long_name ns
-
--- Some records were appended, or one is too long, or memory is wanting.
-abbrev pub Listed : List ℕ → List ℕ → List ℕ → Bool → Result (Unit {0}) WriteFault → Type 0
-Listed before after bytes long (Ok done) = (long ≡ false) × (after ≡ before ++ bytes)
-Listed before after bytes long (Err TooLong) = long ≡ true
-Listed before after bytes long (Err Memory) = Unit {0}
 
 -- The fields of a sheet whose header counts its links.
 abbrev pub whole_fields : ℕ → List Named → List Link → Fields

@@ -1,7 +1,7 @@
 -- What writing a record of a sheet leaves.
 use Rattle.std.specs.Prelude.{◌≡◌, ℕ, ◌<◌, ◌≤◌, List, ◌++◌, Ok, Err, Result}
-use Rattle.records.specs.declared.WriteFault.{WriteFault}
-use Rattle.records.specs.declared.WriteFault.TheVariants.{TooLong, Memory}
+use Rattle.records.specs.declared.writing.WriteFault.{WriteFault}
+use Rattle.records.specs.declared.writing.WriteFault.TheVariants.{TooLong, Memory}
 use Rattle.sheet_format.specs.Items.{Item, bytes_of}
 
 -- The bytes after are those before and then the record's; a payload too long for its length field, and want of memory, leave them as they were.

@@ -1,68 +1,47 @@
 //! Writing a sheet, record by record or as a whole. No limits are asked, so that damaged sheets can be written too.
 #![tactic(auto)]
 
-ghost use Rattle.std.specs.Prelude.{◌≡◌, ◌+◌, false, ◌++◌, map, length};
+ghost use Rattle.std.specs.Prelude.{◌≡◌, ◌+◌, ◌++◌, map, length};
 ghost use Rattle.records.specs.Bytes.{le16, le32};
 ghost use Rattle.sheet_format.specs.Items.{header, name as name_item, link as link_item};
 ghost use Rattle.sheet_writing.specs.Writes.{Appended};
-ghost use Rattle.sheet_writing.specs.Wholes.{named, long_name, Listed, Wrote};
-ghost use Rattle.sheet_writing.specs.Wholes.{names_bytes, links_bytes, whole_fields};
+ghost use Rattle.sheet_writing.specs.Wholes.{named, whole_fields, Wrote};
 
 use networks::model::Link;
 use records::{WriteFault, push_record};
 use std::alloc::Global;
 
-// Two numbers of two bytes each.
-fn two_numbers(first: u16, second: u16) -> [u8; 4]
-    ensures { result ≡ le16 first ++ le16 second }
-{
-    let [a, b] = first.to_le_bytes();
-    let [c, d] = second.to_le_bytes();
-    [a, b, c, d]
-}
-
-// A link's start, end and metres.
-fn link_front(start: u16, end: u16, metres: u32) -> [u8; 8]
-    ensures { result ≡ le16 start ++ (le16 end ++ le32 metres) }
-{
-    let [a, b] = start.to_le_bytes();
-    let [c, d] = end.to_le_bytes();
-    let [e, f, g, h] = metres.to_le_bytes();
-    [a, b, c, d, e, f, g, h]
-}
-
-// A link's pole metres and channels.
-fn link_back(poles: u32, channels: u16) -> [u8; 6]
-    ensures { result ≡ le32 poles ++ le16 channels }
-{
-    let [a, b, c, d] = poles.to_le_bytes();
-    let [e, f] = channels.to_le_bytes();
-    [a, b, c, d, e, f]
-}
-
 /// Appends a header's record.
 pub fn push_header(out: &mut Vec<u8>, sites: u16, links: u16) -> Result<(), WriteFault>
     ensures { Appended out.old.items out.new.items (header sites links) 4 result }
 {
-    let payload = two_numbers(sites, links);
-    push_record(out, 1, &payload, &[])
+    push_record(out, 1, &sites.to_le_bytes(), &links.to_le_bytes())
 }
 
 /// Appends the record of a site's name; a name of more than 65,533 bytes does not fit its length and is refused.
 pub fn push_name(out: &mut Vec<u8>, site: u16, name: &[u8]) -> Result<(), WriteFault>
     ensures { Appended out.old.items out.new.items (name_item (record { site = site; name = name.now })) (2 + length name.now) result }
 {
-    let front = site.to_le_bytes();
-    push_record(out, 2, &front, name)
+    push_record(out, 2, &site.to_le_bytes(), name)
+}
+
+// A link's payload: its start, its end, its metres, those on poles, its channels.
+fn link_bytes(link: Link) -> [u8; 14]
+    ensures { result ≡ le16 link.start ++ (le16 link.end ++ (le32 link.metres ++ (le32 link.poles ++ le16 link.channels))) }
+{
+    let [a, b] = link.start.to_le_bytes();
+    let [c, d] = link.end.to_le_bytes();
+    let [e, f, g, h] = link.metres.to_le_bytes();
+    let [i, j, k, l] = link.poles.to_le_bytes();
+    let [m, n] = link.channels.to_le_bytes();
+    [a, b, c, d, e, f, g, h, i, j, k, l, m, n]
 }
 
 /// Appends a link's record. A sheet does not tell whether a link is lit and which channels are taken.
 pub fn push_link(out: &mut Vec<u8>, link: Link) -> Result<(), WriteFault>
     ensures { Appended out.old.items out.new.items (link_item link) 14 result }
 {
-    let front = link_front(link.start, link.end, link.metres);
-    let back = link_back(link.poles, link.channels);
-    push_record(out, 3, &front, &back)
+    push_record(out, 3, &link_bytes(link), &[])
 }
 
 /// A site and the name that it bears.
@@ -70,34 +49,6 @@ pub fn push_link(out: &mut Vec<u8>, link: Link) -> Result<(), WriteFault>
 pub struct SiteName<'a> {
     pub site: u16,
     pub name: &'a [u8],
-}
-
-// Appends a record for each name, in order.
-fn push_names(out: &mut Vec<u8>, names: &[SiteName]) -> Result<(), WriteFault>
-    ensures { Listed out.old.items out.new.items (names_bytes (map named names.now)) (long_name (map named names.now)) result }
-{
-    for at in 0..names.len() {
-        let next = names[at];
-        match push_name(out, next.site, next.name) {
-            Ok(()) => {}
-            Err(fault) => return Err(fault),
-        }
-    }
-    Ok(())
-}
-
-// Appends a record for each link, in order.
-fn push_links(out: &mut Vec<u8>, links: &[Link]) -> Result<(), WriteFault>
-    ensures { Listed out.old.items out.new.items (links_bytes links.now) false result }
-{
-    for at in 0..links.len() {
-        let next = links[at];
-        match push_link(out, next) {
-            Ok(()) => {}
-            Err(fault) => return Err(fault),
-        }
-    }
-    Ok(())
 }
 
 /// The bytes of a sheet: its header, which counts the links, its names and its links.
@@ -109,21 +60,14 @@ pub fn write(
 ) -> Result<Vec<u8>, WriteFault>
     ensures { Wrote (whole_fields sites (map named names.now) links.now) result }
 {
-    if links.len() > 65535 {
-        return Err(WriteFault::TooLong);
-    }
+    let count = u16::try_from(links.len()).map_err(|_| WriteFault::TooLong)?;
     let mut out = Vec::new(heap);
-    match push_header(&mut out, sites, links.len() as u16) {
-        Ok(()) => {}
-        Err(fault) => return Err(fault),
+    push_header(&mut out, sites, count)?;
+    for name in names {
+        push_name(&mut out, name.site, name.name)?;
     }
-    match push_names(&mut out, names) {
-        Ok(()) => {}
-        Err(fault) => return Err(fault),
-    }
-    match push_links(&mut out, links) {
-        Ok(()) => {}
-        Err(fault) => return Err(fault),
+    for link in links {
+        push_link(&mut out, *link)?;
     }
     Ok(out)
 }

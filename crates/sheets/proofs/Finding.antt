@@ -1,48 +1,89 @@
--- The search for a site's name, entry by entry.
-use Rattle.std.proofs.Common.{◌≡◌, ℕ, zero, suc, ◌+◌, ◌-◌, ◌<◌, ◌≤◌, true, false, cond, ◌&&◌, eqb, ltb, leb, List, [], ◌∷◌, map, length, get_or, drop, Some, None, sym, refl, ap, ◌∙◌, ⊎_elim, arith}
-use Rattle.std.proofs.lemmas.List.{at_drop_more, at_drop_all}
-use Rattle.std.proofs.lemmas.Bool.{cond-true, cond-false, eq-eqb, ne_eqb, le-leb, lt-leb, ltb-true, ltb-false, cases_Bool, and_left}
+-- The names by their sites, and the bytes of one.
+use Rattle.std.proofs.Common.{◌≡◌, ◌↔◌, ℕ, zero, suc, ◌+◌, ◌-◌, ◌<◌, ◌≤◌, Bool, true, false, cond, ◌&&◌, eqb, ltb, leb, List, [], ◌∷◌, ◌++◌, map, length, get_or, Some, None, Option, Bor, Less, Greater, IsSome, IfSome, MatchOption, sym, refl, ap, ◌∙◌, arith}
+use Rattle.std.specs.List.{list_all, slice_get}
+use Rattle.std.specs.List.Sorted.{IsStrictlySortedBy}
+use Rattle.std.specs.Map.{keys_of, lookup}
+use Rattle.std.specs.BTreeMap.{insert_entry, is_at}
+use Rattle.std.specs.Ordering.{nat_cmp, is_eq, match_ordering}
+use Rattle.std.specs.Option.{option_map}
+use Rattle.std.specs.Cmp.{nat_cmp_is}
+use Rattle.std.proofs.lemmas.List.{map_push}
+use Rattle.std.proofs.lemmas.Map.Keys.{sorted_head, sorted_tail}
+use Rattle.std.proofs.lemmas.Option.{get_or_from_slice_get}
+use Rattle.std.proofs.lemmas.List.Recursion.{same_from_clauses}
+use Rattle.std.proofs.lemmas.Bool.{le-leb}
+use Rattle.std.proofs.lemmas.Bool.Decides.{nat_tests}
 use Rattle.sheet_format.specs.Rules.{next_site, printable}
-use Rattle.sheets.specs.declared.names.Entry.{Entry}
 use Rattle.sheets.specs.Naming.{entry_of, name_of}
 
-module _ (es : List Entry) (i site : ℕ) where
-  step : (d : Entry) → i < length es → name_of (map entry_of (drop i es)) site ≡ cond (eqb (get_or es i d).site site) (Some (get_or es i d).name.now) (name_of (map entry_of (drop (i + 1) es)) site)
-  step d h = at_drop_more (λ l. name_of (map entry_of l) site) es i d h
+-- the entries of the table of names
+abbrev Entries : Type 0
+Entries = List (ℕ × Bor (List ℕ))
 
-  pub hit : (d : Entry) → i < length es → (get_or es i d).site ≡ site → name_of (map entry_of (drop i es)) site ≡ Some (get_or es i d).name.now
-  hit d h e = step d h ∙ cond-true _ _ _ (eq-eqb _ _ e)
+less : (a b : ℕ) → nat_cmp a b ≡ Less → a < b
+less a b h = grind (arith, nat_tests)
 
-  pub miss : (d : Entry) → i < length es → ((get_or es i d).site ≡ site → ⊥) → name_of (map entry_of (drop (i + 1) es)) site ≡ name_of (map entry_of (drop i es)) site
-  miss d h e = sym (step d h ∙ cond-false _ _ _ (ne_eqb _ _ e))
+-- the sites after a first one are above it
+above : (x : ℕ) (es : Entries) → IsStrictlySortedBy nat_cmp (x ∷ keys_of es) → x < next_site (x + 1) (map entry_of es)
+above x [] s = omega arith
+above x (e ∷ es) s =
+    let first : x < e.0 = less x e.0 (sorted_head nat_cmp x (keys_of (e ∷ es)) s).0 in
+    let rest : e.0 < next_site (e.0 + 1) (map entry_of es) = above e.0 es (sorted_tail nat_cmp x (keys_of (e ∷ es)) s) in
+    omega arith
 
-  pub gone : length es ≤ i → name_of (map entry_of (drop i es)) site ≡ None
-  gone h = at_drop_all (λ l. name_of (map entry_of l) site) es i h
+-- an entry of a site above the others comes last
+put_last : (from : ℕ) (es : Entries) (site : ℕ) (name : Bor (List ℕ)) → IsStrictlySortedBy nat_cmp (keys_of es) → next_site from (map entry_of es) ≤ site → insert_entry nat_cmp es site name ≡ es ++ (site, name) ∷ []
+put_last from [] site name s h = refl
+put_last from (e ∷ es) site name s h =
+    let below : e.0 < site = omega (arith, above e.0 es s) in
+    ap (λ o. match_ordering o ((site, name) ∷ e ∷ es) ((e.0, name) ∷ es) (e ∷ insert_entry nat_cmp es site name)) (sym (nat_cmp_is site e.0 Greater below))
+    ∙ ap (λ l. e ∷ l) (put_last (e.0 + 1) es site name (sorted_tail nat_cmp e.0 (keys_of es) s) h)
 
-last_site : (k : ℕ) (es : List Entry) (i : ℕ) (d : Entry) → i + 1 ≡ length es → next_site k (map entry_of es) ≡ (get_or es i d).site + 1
+pub named_more : (es after : Entries) (site : ℕ) (name : Bor (List ℕ)) → IsStrictlySortedBy nat_cmp (keys_of es) → next_site 0 (map entry_of es) ≤ site → after ≡ insert_entry nat_cmp es site name → map entry_of after ≡ map entry_of es ++ (record { site = site; name = name.now }) ∷ []
+named_more es after site name s h is = ap (map entry_of) (is ∙ put_last 0 es site name s h) ∙ map_push entry_of es (site, name)
+
+by_test : (b : Bool) (name : Bor (List ℕ)) (o : Option (Bor (List ℕ))) (n : Option (List ℕ)) → n ≡ option_map (λ x. x.now) o → cond b (Some name.now) n ≡ option_map (λ x. x.now) (cond b (Some name) o)
+by_test true name o n h = refl
+by_test false name o n h = h
+
+same_test : (a b : ℕ) → eqb b a ≡ is_eq (nat_cmp a b)
+same_test a b = grind (arith, nat_tests)
+
+-- the name of a site is what the table has at it
+name_at : (es : Entries) (site : ℕ) → name_of (map entry_of es) site ≡ option_map (λ x. x.now) (lookup (is_at (nat_cmp site)) es)
+name_at [] site = refl
+name_at (e ∷ es) site =
+    ap (λ b. cond b (Some e.1.now) (name_of (map entry_of es) site)) (same_test site e.0)
+    ∙ by_test (is_eq (nat_cmp site e.0)) e.1 (lookup (is_at (nat_cmp site)) es) (name_of (map entry_of es) site) (name_at es site)
+
+pub named_by : (es : Entries) (site : ℕ) (o : Option (Bor (List ℕ))) → o ≡ lookup (is_at (nat_cmp site)) es → MatchOption o (name_of (map entry_of es) site ≡ None) (λ bytes. name_of (map entry_of es) site ≡ Some bytes.now)
+named_by es site None h = name_at es site ∙ ap (option_map (λ x. x.now)) (sym h)
+named_by es site (Some bytes) h = name_at es site ∙ ap (option_map (λ x. x.now)) (sym h)
+
+last_site : (k : ℕ) (es : Entries) (i : ℕ) (d : ℕ × Bor (List ℕ)) → i + 1 ≡ length es → next_site k (map entry_of es) ≡ (get_or es i d).0 + 1
 last_site k [] i d h = absurd (omega arith)
 last_site k (e ∷ []) zero d h = refl
 last_site k (e ∷ []) (suc i) d h = absurd (omega arith)
 last_site k (e ∷ f ∷ es) zero d h = absurd (omega arith)
-last_site k (e ∷ f ∷ es) (suc i) d h = last_site (e.site + 1) (f ∷ es) i d (omega arith)
+last_site k (e ∷ f ∷ es) (suc i) d h = last_site (e.0 + 1) (f ∷ es) i d (omega arith)
 
 below : (a b : ℕ) → ltb a b ≡ leb (a + 1) b
-below a b = ⊎_elim (λ h. let lt = ltb-true a b h in h ∙ sym (le-leb (a + 1) b (omega arith))) (λ h. let ge = ltb-false a b h in h ∙ sym (lt-leb (a + 1) b (omega arith))) (cases_Bool (ltb a b))
+below a b = grind (arith, nat_tests)
 
--- a site above the last named one is one that may be named next
-pub rises : (es : List Entry) (d : Entry) (site : ℕ) → 0 < length es → ltb (get_or es (length es - 1) d).site site ≡ leb (next_site 0 (map entry_of es)) site
-rises es d site some = below _ site ∙ ap (λ n. leb n site) (sym (last_site 0 es (length es - 1) d (omega arith)))
+-- a site above the last named one, if there is one, is one that may be named next
+pub rises : (es : Entries) (site : ℕ) (last : Option (Bor ℕ × Bor (Bor (List ℕ)))) (r : Bool) → IsSome last ↔ (0 < length es) → IfSome last (λ p. slice_get es (length es - 1) ≡ Some (p.0.now, p.1.now)) → MatchOption last (r ≡ true) (λ p. r ≡ ltb p.0.now site) → r ≡ leb (next_site 0 (map entry_of es)) site
+rises [] site None r some is m = m ∙ sym (le-leb 0 site (omega arith))
+rises [] site (Some p) r some is m = absurd (omega (arith, some.0 refl))
+rises (e ∷ es) site None r some is m = cc (some.1 (omega arith))
+rises (e ∷ es) site (Some p) r some is m =
+    let i = length (e ∷ es) - 1 in
+    let last : get_or (e ∷ es) i e ≡ (p.0.now, p.1.now) = get_or_from_slice_get (e ∷ es) i (p.0.now, p.1.now) e is in
+    m ∙ ap (λ x. ltb x.0 site) (sym last) ∙ below _ site ∙ ap (λ n. leb n site) (sym (last_site 0 (e ∷ es) i e (omega arith)))
 
-pub rises_first : (es : List Entry) (site : ℕ) → length es ≡ 0 → true ≡ leb (next_site 0 (map entry_of es)) site
-rises_first [] site h = sym (le-leb 0 site (omega arith))
-rises_first (e ∷ es) site h = absurd (omega arith)
+-- whether a byte can be printed
+abbrev pub visible : ℕ → Bool
+visible b = leb 32 b && leb b 126
 
--- the bytes of a name, one by one
-pub byte_more : (bs : List ℕ) (i : ℕ) → i < length bs → (leb 32 (get_or bs i 0) && leb (get_or bs i 0) 126) ≡ true → printable (drop (i + 1) bs) ≡ printable (drop i bs)
-byte_more bs i h seen = sym (at_drop_more printable bs i 0 h ∙ ap (λ b. b && printable (drop (i + 1) bs)) seen)
-
-pub byte_bad : (bs : List ℕ) (i : ℕ) → i < length bs → (leb 32 (get_or bs i 0) && leb (get_or bs i 0) 126) ≡ false → printable (drop i bs) ≡ false
-byte_bad bs i h seen = at_drop_more printable bs i 0 h ∙ and_left _ _ seen
-
-pub bytes_all : (bs : List ℕ) (i : ℕ) → length bs ≤ i → printable (drop i bs) ≡ true
-bytes_all bs i h = at_drop_all printable bs i h
+-- a name can be printed if all its bytes can
+pub printable_all : (bs : List ℕ) → list_all visible bs ≡ printable bs
+printable_all bs = same_from_clauses (list_all visible) printable (λ b rest. visible b && rest) refl (λ b bs. refl) (λ b bs. refl) bs

@@ -1,54 +1,28 @@
 -- Reading goes on by a record, stops at a fault, or comes to the sheet's end.
-use Rattle.std.proofs.Common.{◌≡◌, ℕ, ◌+◌, ◌≤◌, List, ◌++◌, length, drop, Some, None, Ok, Err, Result, sym, refl, ap, ◌∙◌, subst, append_assoc, append-nil, arith, length-append, length-drop}
+use Rattle.std.proofs.Common.{◌≡◌, ℕ, ◌+◌, List, ◌++◌, length, drop, Some, None, Ok, Err, Result, sym, ap, ◌∙◌, subst, append_assoc, append-nil, arith, length-append, length-drop}
 use Rattle.std.proofs.lemmas.List.{drop-drop, nil_from_length}
 use Rattle.records.specs.Bytes.{kind_of, payload_of}
-use Rattle.sheet_format.specs.Items.{Item, header, name, link, bytes_of}
-use Rattle.sheet_format.specs.Rules.{Rule, whole_record, right_shape, right_order, within_limits, link_count, Fields, Before, unbegun, begun, refused, broken, added}
-use Rattle.sheet_format.specs.Sheets.{written, Lawful, written_before, Fails, sheet, fault, Means}
-use Rattle.sheet_format.proofs.Checks.{broken_end, broken_record}
+use Rattle.sheet_format.specs.Items.{bytes_of}
+use Rattle.sheet_format.specs.Rules.{Rule, whole_record, right_shape, right_order, within_limits, link_count, Fields, Before, begun, refused, broken, added}
+use Rattle.sheet_format.specs.Sheets.{written, Lawful, written_before, LawfulBefore, Fails, sheet, fault, Means}
+use Rattle.sheet_format.proofs.Checks.{broken_end, broken_cut, broken_shape, broken_record}
 use Rattle.sheet_format.proofs.Unique.{unique}
 use Rattle.sheet_format.proofs.Steps.{Proper, proper_item, grows, written_more}
 use Rattle.sheet_records.specs.declared.record.Placed.{Placed}
+use Rattle.sheet_records.specs.declared.faults.RecordFault.{RecordFault}
 use Rattle.sheet_records.specs.declared.faults.RecordFault.TheVariants.{CutShort, WrongShape}
 use Rattle.sheets.specs.declared.faults.SheetFault.{SheetFault}
 use Rattle.sheets.specs.declared.faults.SheetFault.TheVariants as its
-use Rattle.sheets.specs.declared.gathering.Gathering.{Gathering}
 use Rattle.sheets.specs.declared.gathering.Sheet.{Sheet}
-use Rattle.sheet_records.specs.Records.{item, Found}
-use Rattle.sheets.specs.Taking.{gathered, fields_of, Blames, Begun, Finished}
-use Rattle.sheets.specs.Reads.{Sofar, Moved, Began, Reads, Gives}
+use Rattle.sheet_records.specs.Records.{item, Found, Next}
+use Rattle.sheets.specs.Taking.{fields_of, Blames, Finished}
+use Rattle.sheets.specs.Reads.{Reads, Gives}
 
-long_item : (x : Item) → 4 ≤ length (bytes_of x)
-long_item (header s c) = omega arith
-long_item (name n) = omega arith
-long_item (link l) = omega arith
-
--- a record that was found and taken
-module _ (bytes : List ℕ) (place : ℕ) (b : Before) (p : Placed) (place' : ℕ) (after : Before) (found : Found (drop place bytes) place p place') (none : refused b (item p.record) ≡ None) (is : after ≡ added b (item p.record)) where
-  sofar_more : Sofar bytes place b → Sofar bytes place' (added b (item p.record))
-  sofar_more s =
-      let left = drop place bytes in
-      let own = bytes_of (item p.record) in
-      let more = written_more b (item p.record) none in
-      let onward : drop (length own) left ≡ drop place' bytes = drop-drop (length own) place bytes ∙ ap (λ n. drop n bytes) (sym found.ends) in
-      record {
-        lawful = grows b (item p.record) s.lawful (subst Proper (sym found.says) (proper_item (kind_of (drop place bytes)) (payload_of (drop place bytes)) found.shape)) none;
-        split = s.split ∙ ap (λ l. written_before b ++ l) found.split ∙ sym (append_assoc (written_before b) own (drop (length own) left)) ∙ (λ i. sym more i ++ onward i);
-        at_place = found.ends ∙ ap (λ n. n + length own) s.at_place ∙ sym (ap length more ∙ length-append (written_before b) own);
-      }
-
-  pub moved : Moved bytes place b place' after
-  moved = record { further = omega (arith, found.ends, long_item (item p.record)); keeps = λ s. subst (Sofar bytes place') (sym is) (sofar_more s) }
-
--- a record that was found and is refused breaks the rule that it is refused for
-pub refuses : (left : List ℕ) (place : ℕ) (b : Before) (p : Placed) (place' : ℕ) (e : SheetFault) → Found left place p place' → Blames e (refused b (item p.record)) p.place → Blames e (broken b left) place
-refuses left place b p place' e found h =
-    subst (λ o. Blames e o place) (ap (refused b) found.says ∙ sym (broken_record b left found.some found.whole found.shape)) (subst (Blames e (refused b (item p.record))) found.begins h)
-
--- the header was found and judged
-pub began : (bytes : List ℕ) (place : ℕ) (p : Placed) (place' : ℕ) (r : Result Gathering SheetFault) → Found (drop place bytes) place p place' → Begun (item p.record) p.place r → Began bytes place r place'
-began bytes place p place' (Ok g) found h = moved bytes place unbegun p place' (begun (gathered g)) found h.0 h.1
-began bytes place p place' (Err e) found h = refuses (drop place bytes) place unbegun p place' e found h
+-- What was read up to a place is lawful, and its bytes are those before the place.
+pub record Sofar (bytes : List ℕ) (place : ℕ) (before : Before) : Type 0 where
+  pub lawful : LawfulBefore before
+  pub split : bytes ≡ written_before before ++ drop place bytes
+  pub at_place : place ≡ length (written_before before)
 
 module _ (bytes : List ℕ) (place : ℕ) (b : Before) (s : Sofar bytes place b) where
   failed : (r : Rule) (at : ℕ) → broken b (drop place bytes) ≡ Some r → at ≡ place → Fails bytes r at
@@ -63,9 +37,30 @@ module _ (bytes : List ℕ) (place : ℕ) (b : Before) (s : Sofar bytes place b)
   tells (its.LinkCount at) h = failed _ at h.0 h.1
   tells its.Memory h = record { before = b; rest = drop place bytes; lawful = s.lawful; split = s.split; unbroken = h }
 
--- nothing was read yet
-pub sofar_none : (bytes : List ℕ) → Sofar bytes 0 unbegun
-sofar_none bytes = record { lawful = tt; split = refl; at_place = refl }
+  -- a fault of the record reader is the sheet's
+  pub stops : (f : RecordFault) (after : ℕ) → Next (drop place bytes) place (Err f) after → Reads bytes (Err (its.Record f))
+  stops (CutShort at) after h = tells (its.Record (CutShort at)) (broken_cut b (drop place bytes) h.0.some h.0.cut, h.1)
+  stops (WrongShape at) after h = tells (its.Record (WrongShape at)) (broken_shape b (drop place bytes) h.0.some h.0.whole h.0.shape, h.1)
+
+  -- a record that was found
+  module _ (p : Placed) (place' : ℕ) (found : Found (drop place bytes) place p place') where
+    -- it is refused, and breaks the rule that it is refused for
+    pub refuses : (e : SheetFault) → Blames e (refused b (item p.record)) p.place → Reads bytes (Err e)
+    refuses e h =
+        tells e (subst (λ o. Blames e o place) (ap (refused b) found.says ∙ sym (broken_record b (drop place bytes) found.some found.whole found.shape)) (subst (Blames e (refused b (item p.record))) found.begins h))
+
+    -- it is taken, and what was read stays lawful
+    pub goes_on : (after : Before) → refused b (item p.record) ≡ None → after ≡ added b (item p.record) → Sofar bytes place' after
+    goes_on after none is =
+        let left = drop place bytes in
+        let own = bytes_of (item p.record) in
+        let more = written_more b (item p.record) none in
+        let onward : drop (length own) left ≡ drop place' bytes = drop-drop (length own) place bytes ∙ ap (λ n. drop n bytes) (sym found.ends) in
+        subst (Sofar bytes place') (sym is) (record {
+          lawful = grows b (item p.record) s.lawful (subst Proper (sym found.says) (proper_item (kind_of left) (payload_of left) found.shape)) none;
+          split = s.split ∙ ap (λ l. written_before b ++ l) found.split ∙ sym (append_assoc (written_before b) own (drop (length own) left)) ∙ (λ i. sym more i ++ onward i);
+          at_place = found.ends ∙ ap (λ n. n + length own) s.at_place ∙ sym (ap length more ∙ length-append (written_before b) own);
+        })
 
 -- no byte is left
 module _ (bytes : List ℕ) (place : ℕ) (f : Fields) (s : Sofar bytes place (begun f)) (none : length (drop place bytes) ≡ 0) where

@@ -1,8 +1,8 @@
--- The faults of a sheet in the list of all refusals.
-use Rattle.std.specs.Prelude.{ℕ, Some, None, Option}
+-- The faults of a sheet in the list of all refusals, and in words.
+use Rattle.std.specs.Prelude.{ℕ, List, codes, Some, None, Option}
 use Rattle.refusals.specs.declared.Refusal.{Refusal}
 use Rattle.refusals.specs.declared.Refusal.TheVariants as listed
-use Rattle.refusals.specs.Numbers.{number}
+use Rattle.refusals.specs.Numbers.{rule}
 use Rattle.sheet_records.specs.Faults.{record_refusal}
 use Rattle.sheets.specs.declared.faults.SheetFault.{SheetFault}
 use Rattle.sheets.specs.declared.faults.SheetFault.TheVariants as its
@@ -15,11 +15,11 @@ sheet_refusal (its.OutsideLimits place) = Some (listed.OutsideSheetLimits place)
 sheet_refusal (its.LinkCount place) = Some (listed.LinkCount place)
 sheet_refusal its.Memory = None
 
--- The number of a refusal, where there is one.
-abbrev pub number_in : Option Refusal → Option ℕ
-number_in (Some refusal) = Some (number refusal)
-number_in None = None
+-- The rule of a refusal, or that memory is wanting where there is none.
+abbrev pub words_of : Option Refusal → List ℕ
+words_of (Some refusal) = rule refusal
+words_of None = codes "memory is wanting"
 
--- The number of each fault of a sheet.
-abbrev pub sheet_number : SheetFault → Option ℕ
-sheet_number fault = number_in (sheet_refusal fault)
+-- Each fault of a sheet in words.
+abbrev pub sheet_words : SheetFault → List ℕ
+sheet_words fault = words_of (sheet_refusal fault)

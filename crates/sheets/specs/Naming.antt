@@ -1,16 +1,16 @@
 -- The names of a sheet, and the name of a site.
-use Rattle.std.specs.Prelude.{ℕ, cond, List, [], ◌∷◌, map, Some, None, vec_items, Option, ◌==◌}
+use Rattle.std.specs.Prelude.{ℕ, cond, List, [], ◌∷◌, map, Some, None, Option, ◌==◌}
+use Rattle.std.specs.Borrow.{Bor}
 use Rattle.sheet_format.specs.Items.{Named}
-use Rattle.sheets.specs.declared.names.Entry.{Entry}
 use Rattle.sheets.specs.declared.names.Names.{Names}
 
--- A site and its name, as they stand in the table.
-abbrev pub entry_of : Entry → Named
-entry_of e = record { site = e.site; name = e.name.now }
+-- A site and its name, as they stand in the map.
+abbrev pub entry_of : ℕ × Bor (List ℕ) → Named
+entry_of e = record { site = e.0; name = e.1.now }
 
 -- The names, in the order of the sheet.
 abbrev pub named : Names → List Named
-named n = map entry_of (vec_items n.entries)
+named n = map entry_of n.by_site.entries
 
 -- The name of a site, where the sheet gives one.
 abbrev pub name_of : List Named → ℕ → Option (List ℕ)

@@ -1,12 +1,9 @@
 //! What the records of a sheet, read one after the other, come to.
 ghost use Rattle.std.specs.Prelude.{◌≡◌, ◌≤◌, ◌&&◌, nat_le};
-ghost use Rattle.sheet_format.specs.Rules.{unbegun, begun, printable};
-ghost use Rattle.sheet_records.specs.Records.{item};
-ghost use Rattle.sheets.specs.Taking.{gathered, Begun, Judged, Finished};
+ghost use Rattle.sheet_format.specs.Rules.{printable};
 
 use crate::faults::SheetFault;
 use crate::names::Names;
-use networks::building::BuildRefusal;
 use networks::model::Link;
 use networks::network::Network;
 use networks::owned::OwnedNetwork;
@@ -26,28 +23,28 @@ pub(crate) struct Gathering<'a> {
     network: OwnedNetwork,
     names: Names<'a>,
     count: u16,
+    ghost most_links: { count ≤ 2048 },
 }
 
 // Whether a byte can be printed: it lies between the blank and the tilde.
 fn is_visible(byte: u8) -> bool
     ensures { result ≡ nat_le 32 byte && nat_le byte 126 }
 {
-    (32 <= byte) & (byte <= 126)
+    (32..=126).contains(&byte)
 }
 
 // Whether each byte of a name can be printed.
 fn is_printable(name: &[u8]) -> bool
     ensures { result ≡ printable name.now }
 {
-    for byte in name {
-        if !is_visible(*byte) {
-            return false;
-        }
-    }
-    true
+    name.iter().all(|byte| is_visible(*byte))
 }
 
 impl<'a> Gathering<'a> {
+    ghost use Rattle.sheet_format.specs.Rules.{unbegun, begun};
+    ghost use Rattle.sheet_records.specs.Records.{item};
+    ghost use Rattle.sheets.specs.Taking.{gathered, Begun, Judged, Finished};
+
     // Begins with the first record, which has to be a header within its limits.
     pub(crate) fn begin(heap: Global, first: Placed<'a>) -> Result<Gathering<'a>, SheetFault>
         ensures { Begun (item first.entry.record) first.entry.place result }
@@ -59,14 +56,14 @@ impl<'a> Gathering<'a> {
         if links > 2048 {
             return Err(SheetFault::OutsideLimits { place });
         }
-        match OwnedNetwork::empty(heap, sites) {
-            Ok(network) => Ok(Gathering {
-                network,
-                names: Names::none(heap),
-                count: links,
-            }),
-            Err(_) => Err(SheetFault::OutsideLimits { place }),
-        }
+        let network = OwnedNetwork::empty(heap, sites).map_err(|_| SheetFault::OutsideLimits {
+            place,
+        })?;
+        Ok(Gathering {
+            network,
+            names: Names::none(heap),
+            count: links,
+        })
     }
 
     // Takes a name, by rising site and before the links.
@@ -79,15 +76,12 @@ impl<'a> Gathering<'a> {
         if site >= self.network.sites() || !is_printable(name) {
             return Err(SheetFault::OutsideLimits { place });
         }
-        match self.names.add(site, name) {
-            Ok(()) => Ok(()),
-            Err(()) => Err(SheetFault::Memory),
-        }
+        self.names.add(site, name)?;
+        Ok(())
     }
 
     // Takes a link that is sound and not one too many.
     fn accept_link(&mut self, place: usize, link: Link) -> Result<(), SheetFault>
-        requires { self.old.count ≤ 2048 }
         ensures { Judged (gathered self.old) (item (Record.Link link)) place result (gathered self.new) }
     {
         if !link.is_sound(self.network.sites()) {
@@ -96,21 +90,17 @@ impl<'a> Gathering<'a> {
         if self.network.links() >= self.count {
             return Err(SheetFault::LinkCount { place });
         }
-        match self.network.add(link) {
-            Ok(()) => Ok(()),
-            Err(BuildRefusal::Memory) => Err(SheetFault::Memory),
-            Err(BuildRefusal::OutsideLimits) => unreachable(),
-        }
+        // A network takes a sound link that is not one too many, if it has memory.
+        self.network.add(link).map_err(|_| SheetFault::Memory)
     }
 
     // Takes the next record after the header.
     pub(crate) fn accept(&mut self, next: Placed<'a>) -> Result<(), SheetFault>
-        requires { self.old.count ≤ 2048 }
         ensures { Judged (gathered self.old) (item next.entry.record) next.entry.place result (gathered self.new) }
     {
         let Placed { place, record } = next;
         match record {
-            Record::Header { sites: _, links: _ } => Err(SheetFault::OutOfOrder { place }),
+            Record::Header { .. } => Err(SheetFault::OutOfOrder { place }),
             Record::Name { site, name } => self.accept_name(place, site, name),
             Record::Link(link) => self.accept_link(place, link),
         }

@@ -1,21 +1,15 @@
 //! The names of a sheet's sites, as bytes that are borrowed from it.
-ghost use Rattle.std.specs.Prelude.{◌≡◌, [], ◌∷◌, ◌++◌, Some, None, MatchOption, MatchResult, nat_le};
+ghost use Rattle.std.specs.Prelude.{◌≡◌, ◌≤◌, [], ◌∷◌, ◌++◌, Some, None, MatchOption, MatchResult, nat_le};
 ghost use Rattle.sheet_format.specs.Rules.{next_site};
 ghost use Rattle.sheets.specs.Naming.{named, name_of};
 
-use std::alloc::Global;
+use std::alloc::{AllocError, Global};
+use std::collections::BTreeMap;
 
-// One site's name.
-#[derive(Clone, Copy)]
-struct Entry<'a> {
-    site: u16,
-    name: &'a [u8],
-}
-
-/// The names of a sheet, in its order.
+/// The names of a sheet by their sites, which rise in the sheet.
 #[derive(Drop)]
 pub struct Names<'a> {
-    entries: Vec<Entry<'a>>,
+    by_site: BTreeMap<u16, &'a [u8]>,
 }
 
 impl<'a> Names<'a> {
@@ -24,45 +18,32 @@ impl<'a> Names<'a> {
         ensures { named result ≡ [] }
     {
         Names {
-            entries: Vec::new(heap),
+            by_site: BTreeMap::new(heap),
         }
     }
 
-    // One name more, after the others; without memory for it the names stay as they were.
-    pub(crate) fn add(&mut self, site: u16, name: &'a [u8]) -> Result<(), ()>
+    // One name more, of a site above the others; without memory for it the names stay as they were.
+    pub(crate) fn add(&mut self, site: u16, name: &'a [u8]) -> Result<(), AllocError>
+        requires { next_site 0 (named self.old) ≤ site }
         ensures { MatchResult result (λ _. named self.new ≡ named self.old ++ (record { site = site; name = name.now }) ∷ []) (λ _. named self.new ≡ named self.old) }
     {
-        match self.entries.push(Entry { site, name }) {
-            Ok(()) => Ok(()),
-            Err(_) => Err(()),
-        }
+        self.by_site.insert(site, name)?;
+        Ok(())
     }
 
     // Whether a name of this site may come next: it is above the last one.
     pub(crate) fn rises_to(&self, site: u16) -> bool
         ensures { result ≡ nat_le (next_site 0 (named self.now)) site }
     {
-        let entries = self.entries.as_slice();
-        if entries.is_empty() {
-            return true;
-        }
-        let last = entries[entries.len() - 1];
-        last.site < site
+        self.by_site
+            .last_key_value()
+            .is_none_or(|(last, _)| *last < site)
     }
 
     /// The name of a site, if the sheet gives one.
     pub fn name(&self, site: u16) -> Option<&'a [u8]>
         ensures { MatchOption result (name_of (named self.now) site ≡ None) (λ bytes. name_of (named self.now) site ≡ Some bytes.now) }
     {
-        let entries = self.entries.as_slice();
-        let mut at = 0;
-        while at < entries.len() {
-            let entry = entries[at];
-            if entry.site == site {
-                return Some(entry.name);
-            }
-            at += 1;
-        }
-        None
+        self.by_site.get(&site).copied()
     }
 }

@@ -156,10 +156,6 @@ module _ {C : Type 0} {k : Ops C} (laws : Laws k) (n : Net) (sound : Sound n) {r
         ap (λ a. alike a (get_or table w 0)) (m u hu) ∙ ap (λ b. alike (mark (top_of (first_run k (view k n) root) S u)) b) (m w hw)
         ∙ alike_marks (top_of (first_run k (view k n) root) S u) (top_of (first_run k (view k n) root) S w) (λ z h. omega (arith, top_site first_kept few S u z h, few))
 
-    -- no link that is not usable is considered
-    pub not_usable : (e : ℕ) → (view k n).usable e ≡ false → None ≡ offers (second_job k (view k n) root (first_run k (view k n) root)) y S e
-    not_usable e h = sym (cond-false ((second_job k (view k n) root (first_run k (view k n) root)).considers y S e) (Some ((view k n).end e, reduced k (view k n) (first_run k (view k n) root) e)) None (ap (λ u. (u && not (tree_link (view k n) (first_run k (view k n) root) root e)) && ((joined (up (first_run k (view k n) root)) S y ((view k n).start e) && joined (up (first_run k (view k n) root)) S y ((view k n).end e)) && (not (eqb ((view k n).end e) y) && (eqb ((view k n).start e) y || not (joined (up (first_run k (view k n) root)) (y ∷ S) ((view k n).start e) ((view k n).end e)))))) h))
-
     module _ (e : ℕ) (usable : (view k n).usable e ≡ true) where
       pub start_site : (view k n).start e < n.sites
       start_site = (view_sound laws n sound).start e usable
@@ -221,15 +217,12 @@ module _ {C : Type 0} {k : Ops C} (laws : Laws k) (n : Net) (sound : Sound n) {r
 
   -- a usable link that is admitted is offered
   pub is_offered : true ≡ admitted tree piece part root y ends.0 ends.1 e
-      → (cost at_start at_end sum : C) → cost ≡ (view k n).cost e → at_start ≡ get_or distance ends.0 k.zero → at_end ≡ get_or distance ends.1 k.zero
-      → sum ≡ reduced_worked k cost at_start at_end
+      → (sum : C) → sum ≡ reduced_worked k ((view k n).cost e) (get_or distance ends.0 k.zero) (get_or distance ends.1 k.zero)
       → Some (ends.1, sum) ≡ offers (second_job k (view k n) root (first_run k (view k n) root)) y S e
-  is_offered h cost at_start at_end sum hc hs ht made =
+  is_offered h sum made =
       let first_end : ends.0 ≡ (view k n).start e = ap (λ (p : ℕ × ℕ). p.0) is in
       let last_end : ends.1 ≡ (view k n).end e = ap (λ (p : ℕ × ℕ). p.1) is in
-      let one : at_start ≡ get_or distance ((view k n).start e) k.zero = hs ∙ ap (λ w. get_or distance w k.zero) first_end in
-      let two : at_end ≡ get_or distance ((view k n).end e) k.zero = ht ∙ ap (λ w. get_or distance w k.zero) last_end in
       let same : Some (ends.1, sum) ≡ Some ((view k n).end e, reduced_worked k ((view k n).cost e) (get_or distance ((view k n).start e) k.zero) (get_or distance ((view k n).end e) k.zero)) =
       ap (λ w. Some (w, sum)) last_end
-      ∙ ap (λ c. Some ((view k n).end e, c)) (made ∙ ap (λ c. reduced_worked k c at_start at_end) hc ∙ ap (λ c. reduced_worked k ((view k n).cost e) c at_end) one ∙ ap (λ c. reduced_worked k ((view k n).cost e) (get_or distance ((view k n).start e) k.zero) c) two) in
+      ∙ ap (λ c. Some ((view k n).end e, c)) (made ∙ (λ i. reduced_worked k ((view k n).cost e) (get_or distance (first_end i) k.zero) (get_or distance (last_end i) k.zero))) in
       same ∙ is_admitted laws n sound ready.first_left ready e (sym usable) (sym (subst (λ (p : ℕ × ℕ). true ≡ admitted tree piece part root y p.0 p.1 e) is h))

@@ -1,6 +1,5 @@
 -- Making the marks new gives the tops with one more site struck.
-use Rattle.std.proofs.Common.{◌≡◌, ℕ, ◌+◌, ◌<◌, ◌≤◌, true, false, cond, ◌||◌, eqb, List, [], ◌∷◌, reverse, length, get_or, take, Some, sym, refl, ap, ◌∙◌, subst, inl, inr, add-one, arith, length-set, get_or-set_other, take-suc, get_or-set_same}
-use mathlib.Core.List.{reverse-append}
+use Rattle.std.proofs.Common.{◌≡◌, ℕ, ◌<◌, ◌≤◌, true, false, cond, ◌||◌, eqb, List, [], ◌∷◌, length, get_or, Some, sym, refl, ap, ◌∙◌, subst, inl, inr, arith, length-set, get_or-set_other, get_or-set_same}
 use Rattle.std.proofs.lemmas.Bool.{eq-eqb, ne_eqb, or_left, or_right, or_from, cases_Bool, cases_eq, cond-true, cond-false, both_ways}
 use Rattle.costs.specs.Costs.{Ops}
 use Rattle.least_pairs.specs.Runs.{Job, State, has}
@@ -11,10 +10,6 @@ use Rattle.least_pairs.proofs.Older.{Older, older_all, older_before, older_has, 
 use Rattle.least_pairs.proofs.Tree.{up_none, up_reached}
 use Rattle.least_pairs.proofs.Pieces.{cases_option, top_of, top_struck, top_some, top_root, top_other, top_above}
 use Rattle.stages.specs.Marks.{mark, Marked, mark_or, new_mark, renewed}
-
--- one site more of those settled
-pub one_more : (order : List ℕ) (i : ℕ) → i < length order → reverse (take (i + 1) order) ≡ get_or order i 0 ∷ reverse (take i order)
-one_more order i h = rw add-one (ap reverse (take-suc order i 0 h) ∙ reverse-append (take i order) (get_or order i 0 ∷ []))
 
 module _ (parents : List ℕ) (root y : ℕ) (table : List ℕ) where
   -- a table keeps its length

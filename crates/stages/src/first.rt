@@ -1,5 +1,5 @@
 //! The first run: a settled site considers the usable links that start there.
-ghost use Rattle.std.specs.Prelude.{◌≡◌, Some, None};
+ghost use Rattle.std.specs.Prelude.{◌≡◌};
 ghost use Rattle.least_pairs.specs.Views.{view};
 ghost use Rattle.least_pairs.specs.Plans.{first_job};
 ghost use Rattle.stages.specs.First.{cut};
@@ -17,26 +17,12 @@ pub struct FirstStage<'a, N> {
 }
 
 impl<'a, N: Network> FirstStage<'a, N> {
-    /// The stage over all links.
-    pub fn whole(network: &'a N) -> Self
+    /// The stage over all links but the one left out, if one is.
+    pub fn new(network: &'a N, left_out: Option<u16>) -> Self
         ensures network { result.network.now ≡ network.now }
-        ensures whole { result.left_out ≡ None }
+        ensures left_out { result.left_out ≡ left_out }
     {
-        FirstStage {
-            network,
-            left_out: None,
-        }
-    }
-
-    /// The stage over all links but one.
-    pub fn without(network: &'a N, link: u16) -> Self
-        ensures network { result.network.now ≡ network.now }
-        ensures but { result.left_out ≡ Some link }
-    {
-        FirstStage {
-            network,
-            left_out: Some(link),
-        }
+        FirstStage { network, left_out }
     }
 }
 
@@ -49,14 +35,8 @@ impl<'a, N: Network, C: Cost> Stage<C> for FirstStage<'a, N> {
 
     fn offer(&self, site: u16, link: u16) -> Option<(u16, C)> {
         let network = self.network;
-        let left_out = self.left_out;
-        if !is_usable(network, link) {
+        if !is_usable(network, link) || self.left_out == Some(link) {
             return None;
-        }
-        if let Some(other) = left_out {
-            if link == other {
-                return None;
-            }
         }
         let (start, end) = ends_of(network, link);
         if start != site {

@@ -1,29 +1,33 @@
 //! The second run: a struck site considers the links that leave it and those that join the parts of its piece.
-ghost use Rattle.std.specs.Prelude.{◌≡◌, ℕ, ◌<◌, ◌≤◌, [], length, slice_index};
+ghost use Rattle.std.specs.Prelude.{◌≡◌, ℕ, ◌<◌, ◌≤◌, [], reverse, length, slice_index, slice_index_or};
 ghost use Rattle.least_pairs.specs.Views.{view};
 ghost use Rattle.least_pairs.specs.Plans.{first_run, second_job};
+ghost use Rattle.stages.specs.Marks.{renewed};
 ghost use Rattle.stages.specs.Second.{FirstLeft, Ready, tree_linked, admitted, reduced_worked};
+ghost use Rattle.stages.specs.Once.{first_left_once};
 
-use crate::pieces::{are_together, begin_marks, renew};
+use crate::pieces::{are_together, begin_marks, keep_marks, renew};
 use crate::usable::{cost_of_link, ends_of, is_usable};
 use costs::Cost;
 use networks::network::Network;
 use runs::Stage;
 
-/// A network with what the first run left: distances, tree links and parents by site, and the sites reached in the order they were settled.
+/// A network with what the first run from a root left: distances, tree links and parents by site, and the sites reached in the order they were settled.
+// Tables side by side: they are those of `RunTables`, plain slices, since a C program may lend them.
 #[derive(Drop)]
-pub struct FirstRun<'a, N, C> {
+pub struct FirstRun<'a, N: Network, C: Cost> {
     pub network: &'a N,
     pub root: u16,
     pub distance: &'a [C],
     pub tree: &'a [u16],
     pub parents: &'a [u16],
     pub order: &'a [u16],
+    pub ghost left: { FirstLeft C.Cost.ops (view C.Cost.ops (N.Network.meaning network.now)) root distance.now tree.now parents.now order.now } by { first_left_once C.code },
 }
 
 /// The second stage: for each site the mark of its piece before the last strike, and of its part since.
 #[derive(Drop)]
-pub struct SecondStage<'a, 't, N, C> {
+pub struct SecondStage<'a, 't, N: Network, C: Cost> {
     first: FirstRun<'a, N, C>,
     piece: &'t mut [u16],
     part: &'t mut [u16],
@@ -37,42 +41,42 @@ fn is_tree_link(tree: &[u16], root: u16, end: u16, link: u16) -> bool
     tree[end as usize] == link && end != root
 }
 
-/// The reduced cost: the cost plus the start's distance minus the end's.
-fn reduced_cost<C: Cost>(cost: C, at_start: C, at_end: C) -> C
-    ensures { result ≡ reduced_worked C.Cost.ops cost at_start at_end }
-{
-    cost.sum(at_start).sum(at_end.negation())
+impl<'a, N: Network, C: Cost + Copy> FirstRun<'a, N, C> {
+    /// The reduced cost of a link: its cost plus its start's distance minus its end's.
+    fn reduced_cost(&self, link: u16, start: u16, end: u16) -> C
+        requires link { link < length (N.Network.meaning self.now.network.now).links }
+        requires ends { (start < length self.now.distance.now) × (end < length self.now.distance.now) }
+        ensures { result ≡ reduced_worked C.Cost.ops ((view C.Cost.ops (N.Network.meaning self.now.network.now)).cost link) (slice_index_or self.now.distance.now start C.Cost.ops.zero) (slice_index_or self.now.distance.now end C.Cost.ops.zero) }
+    {
+        let cost = cost_of_link::<N, C>(self.network, link);
+        let at_start = self.distance[start as usize];
+        let at_end = self.distance[end as usize];
+        cost.sum(at_start).sum(at_end.negation())
+    }
+
+    /// Strikes a site: the marks of the parts are kept as those of the pieces, and those of the parts are made new.
+    fn strike(&self, piece: &mut [u16], part: &mut [u16], site: u16)
+        requires piece { (N.Network.meaning self.now.network.now).sites ≤ length piece.old }
+        requires part { (N.Network.meaning self.now.network.now).sites ≤ length part.old }
+        ensures piece { (w : ℕ) → w < (N.Network.meaning self.now.network.now).sites → slice_index piece.new w ≡ slice_index part.old w }
+        ensures part { part.new ≡ renewed self.now.parents.now self.now.root site (reverse self.now.order.now) part.old }
+    {
+        keep_marks(piece, part, self.network.sites());
+        renew(part, self.order, self.parents, self.root, site);
+    }
 }
 
 impl<'a, 't, N: Network, C: Cost + Copy> SecondStage<'a, 't, N, C> {
     /// The stage before any site is struck.
     pub fn new(first: FirstRun<'a, N, C>, piece: &'t mut [u16], part: &'t mut [u16]) -> Self
-        requires left { FirstLeft C.Cost.ops (view C.Cost.ops (N.Network.meaning first.network.now)) first.root first.distance.now first.tree.now first.parents.now first.order.now }
         requires piece { (N.Network.meaning first.network.now).sites ≤ length piece.old }
         requires part { (N.Network.meaning first.network.now).sites ≤ length part.old }
         ensures first { result.first ≡ first.entry }
         ensures ready { Ready C.Cost.ops (view C.Cost.ops (N.Network.meaning result.first.network.now)) result.first.root result.first.distance.now result.first.tree.now result.first.parents.now result.first.order.now result.piece.now result.part.now [] }
     {
         let sites = first.network.sites();
-        let tree = first.tree;
-        begin_marks(part, tree, first.root, sites);
+        begin_marks(part, first.tree, first.root, sites);
         SecondStage { first, piece, part }
-    }
-
-    /// Keeps the marks of the parts as those of the pieces.
-    fn keep_parts(&mut self)
-        requires { ((N.Network.meaning self.old.first.network.now).sites ≤ length self.old.piece.now) × ((N.Network.meaning self.old.first.network.now).sites ≤ length self.old.part.now) }
-        ensures first { self.new.first ≡ self.old.first }
-        ensures part { self.new.part.now ≡ self.old.part.now }
-        ensures long { length self.new.piece.now ≡ length self.old.piece.now }
-        ensures piece { (w : ℕ) → w < (N.Network.meaning self.old.first.network.now).sites → slice_index self.new.piece.now w ≡ slice_index self.old.part.now w }
-        ensures rest { (w : ℕ) → (N.Network.meaning self.old.first.network.now).sites ≤ w → slice_index self.new.piece.now w ≡ slice_index self.old.piece.now w }
-    {
-        let network = self.first.network;
-        for site in 0..network.sites() {
-            let mark = self.part[site as usize];
-            self.piece[site as usize] = mark;
-        }
     }
 
     /// Whether a usable link is one that the site struck last considers.
@@ -103,11 +107,7 @@ impl<'a, 't, N: Network, C: Cost + Copy> Stage<C> for SecondStage<'a, 't, N, C> 
     ghost ready = { λ s S. Ready C.Cost.ops (view C.Cost.ops (N.Network.meaning s.first.network.now)) s.first.root s.first.distance.now s.first.tree.now s.first.parents.now s.first.order.now s.piece.now s.part.now S };
 
     fn strike(&mut self, site: u16) {
-        let order = self.first.order;
-        let parents = self.first.parents;
-        let root = self.first.root;
-        self.keep_parts();
-        renew(self.part, order, parents, root, site);
+        self.first.strike(self.piece, self.part, site);
     }
 
     fn offer(&self, site: u16, link: u16) -> Option<(u16, C)> {
@@ -119,10 +119,6 @@ impl<'a, 't, N: Network, C: Cost + Copy> Stage<C> for SecondStage<'a, 't, N, C> 
         if !self.admits(site, link, start, end) {
             return None;
         }
-        let distance = self.first.distance;
-        let at_start = distance[start as usize];
-        let at_end = distance[end as usize];
-        let cost = cost_of_link::<N, C>(network, link);
-        Some((end, reduced_cost(cost, at_start, at_end)))
+        Some((end, self.first.reduced_cost(link, start, end)))
     }
 }

@@ -7,22 +7,16 @@ use costs::{Cost, Lengths};
 use networks::network::Network;
 
 /// Whether a link is lit and has a channel that is not taken.
+// Here and below a link of the network is asked for: a type for a network and a link of it would be made for each single question.
 pub fn is_usable<N: Network>(network: &N, link: u16) -> bool
     requires { link < length (N.Network.meaning network.now).links }
     ensures { result ≡ usable (link_at (N.Network.meaning network.now) link) }
 {
-    match network.is_lit(link) {
-        Ok(lit) => {
-            if !lit {
-                return false;
-            }
-        }
-        Err(_) => unreachable(),
+    if !network.is_lit(link).unwrap() {
+        return false;
     }
-    match network.channels(link) {
-        Ok((channels, taken)) => taken < channels,
-        Err(_) => unreachable(),
-    }
+    let (channels, taken) = network.channels(link).unwrap();
+    taken < channels
 }
 
 /// Where a link starts and ends.
@@ -30,10 +24,7 @@ pub fn ends_of<N: Network>(network: &N, link: u16) -> (u16, u16)
     requires { link < length (N.Network.meaning network.now).links }
     ensures { result ≡ ((link_at (N.Network.meaning network.now) link).start, (link_at (N.Network.meaning network.now) link).end) }
 {
-    match network.ends(link) {
-        Ok(ends) => ends,
-        Err(_) => unreachable(),
-    }
+    network.ends(link).unwrap()
 }
 
 /// What a link costs.
@@ -41,8 +32,6 @@ pub fn cost_of_link<N: Network, C: Cost>(network: &N, link: u16) -> C
     requires { link < length (N.Network.meaning network.now).links }
     ensures { result ≡ (view C.Cost.ops (N.Network.meaning network.now)).cost link }
 {
-    match network.lengths(link) {
-        Ok((metres, poles)) => C::of_link(Lengths { metres, poles }),
-        Err(_) => unreachable(),
-    }
+    let (metres, poles) = network.lengths(link).unwrap();
+    C::of_link(Lengths { metres, poles })
 }

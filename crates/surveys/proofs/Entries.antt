@@ -1,7 +1,7 @@
 -- The outcome of a site by what the tables of both runs hold.
-use Rattle.std.proofs.Common.{◌≡◌, ℕ, ◌+◌, ◌<◌, ◌≤◌, true, false, ◌&&◌, eqb, leb, List, [], ◌∷◌, length, get_or, drop, set, Some, sym, refl, ap, ◌∙◌, subst, inl, inr, arith}
-use Rattle.std.proofs.lemmas.List.{get_or-set_same, get_or-set_other, drop-set-lt}
-use Rattle.std.proofs.lemmas.Bool.{and_from, le-leb, cases_eq, cond-true, cond-false, eq-eqb, ne_eqb}
+use Rattle.std.proofs.Common.{◌≡◌, ℕ, ◌+◌, ◌<◌, true, false, eqb, List, length, get_or, drop, set, Some, Ok, sym, refl, ap, ◌∙◌, subst, arith, below_more}
+use Rattle.std.proofs.lemmas.List.{get_or-set_same, get_or-set_other}
+use Rattle.std.proofs.lemmas.Bool.{cond-true, cond-false, eq-eqb, ne_eqb, lt-ltb}
 use Rattle.costs.specs.Costs.{Ops, Laws, worked}
 use Rattle.networks.specs.Meaning.{Net, Sound}
 use Rattle.least_pairs.specs.Views.{view}
@@ -10,12 +10,10 @@ use Rattle.least_pairs.specs.Plans.{Answer, no_route, one_link, pair, answer, ro
 use Rattle.least_pairs.specs.Theorems.{RightSurvey}
 use Rattle.least_pairs.proofs.Proved.{surveys_are_right}
 use Rattle.pairs.specs.Reading.{first_of, second_of, pair_of, tree_route_to}
-use Rattle.planner_tables.specs.Room.{all_fit}
-use Rattle.quotes.proofs.Answering.{none_answered, cut_answered, pair_answered}
-use Rattle.quotes.proofs.Testing.{four_fit}
+use Rattle.quotes.proofs.Answering.{none_answered, cut_answered, pair_answered, at_same}
 use Rattle.surveys.specs.declared.outcome.Outcome.{Outcome}
 use Rattle.surveys.specs.declared.outcome.Outcome.TheVariants as its
-use Rattle.surveys.specs.Surveys.{told, OutcomeIs}
+use Rattle.surveys.specs.Surveys.{told, OutcomeIs, Surveyed}
 
 module _ {C : Type 0} {k : Ops C} (laws : Laws k) (n : Net) (sound : Sound n) (root w : ℕ) (inside : root < n.sites) (low : w < n.sites) where
   -- what is the outcome is right
@@ -46,22 +44,19 @@ module _ {C : Type 0} {k : Ops C} (laws : Laws k) (n : Net) (sound : Sound n) (r
     total_is d l hd hl total is =
         answer_is (pair (pair_of k n root w).0 (pair_of k n root w).1 total) (pair_answered laws n sound root w inside low other d l hd hl (pair_of k n root w).0 (pair_of k n root w).1 total refl refl is).is (its.Total total) refl
 
--- one outcome more is written: the entries up to it have their outcomes, and none past the sites is altered
-pub written_more : {C : Type 0} (k : Ops C) (n : Net) (root site : ℕ) (before table after : List (Outcome C)) (outcome : Outcome C) → site < n.sites → n.sites ≤ length table → after ≡ set table site outcome → OutcomeIs k n root site outcome → ((w : ℕ) → w < site → OutcomeIs k n root w (get_or table w its.Root)) → drop n.sites table ≡ drop n.sites before → ((w : ℕ) → w < site + 1 → OutcomeIs k n root w (get_or after w its.Root)) × (drop n.sites after ≡ drop n.sites before)
-written_more k n root site before table after outcome low long is tells written rest = (
-  λ w lt.
-      elim (cases_eq w site) [
-        | inl e ↦ subst (λ o. OutcomeIs k n root w o) (sym (ap (λ l. get_or l w its.Root) is ∙ ap (λ i. get_or (set table site outcome) i its.Root) e ∙ get_or-set_same table site outcome its.Root (omega (arith, low, long)))) (subst (λ i. OutcomeIs k n root i outcome) (sym e) tells)
-        | inr d ↦ subst (λ o. OutcomeIs k n root w o) (sym (ap (λ l. get_or l w its.Root) is ∙ get_or-set_other table site w outcome its.Root d)) (written w (omega (arith, lt, d)))
-      ],
-  ap (drop n.sites) is ∙ drop-set-lt n.sites table site outcome low ∙ rest,
-)
+-- one outcome more is written
+pub written_more : {C : Type 0} (k : Ops C) (n : Net) (root site : ℕ) (table : List (Outcome C)) (outcome : Outcome C) → site < length table → OutcomeIs k n root site outcome → ((w : ℕ) → w < site → OutcomeIs k n root w (get_or table w its.Root)) → (w : ℕ) → w < site + 1 → OutcomeIs k n root w (get_or (set table site outcome) w its.Root)
+written_more k n root site table outcome low tells written =
+    below_more _ _
+    (λ w lt. let apart : w ≡ site → ⊥ = omega (arith, lt) in subst (λ o. OutcomeIs k n root w o) (sym (get_or-set_other table site w outcome its.Root apart)) (written w lt))
+    (subst (λ o. OutcomeIs k n root site o) (sym (get_or-set_same table site outcome its.Root low)) tells)
 
--- where four tables fit, so do the first three with the survey table
-pub with_survey : (sites a b c d survey : ℕ) → all_fit sites (a ∷ b ∷ c ∷ d ∷ []) ≡ true → sites ≤ survey → all_fit sites (a ∷ b ∷ c ∷ survey ∷ []) ≡ true
-with_survey sites a b c d survey h long =
-    let f = four_fit sites a b c d h in
-    and_from (leb sites a) (leb sites b && (leb sites c && (leb sites survey && true))) (le-leb sites a f.0)
-    (and_from (leb sites b) (leb sites c && (leb sites survey && true)) (le-leb sites b f.1)
-    (and_from (leb sites c) (leb sites survey && true) (le-leb sites c f.2)
-    (and_from (leb sites survey) true (le-leb sites survey long) refl)))
+-- outcomes told over a network and a root are those of the same
+pub survey_told : {C : Type 0} (k : Ops C) (n m : Net) (root other : ℕ) → m ≡ n → other ≡ root → (sites : ℕ) (before after : List (Outcome C)) → root < n.sites → sites ≡ m.sites → ((w : ℕ) → w < m.sites → OutcomeIs k m other w (get_or after w its.Root)) → drop m.sites after ≡ drop m.sites before → Surveyed k n root true (Ok sites) before after
+survey_told k n m root other e f sites before after inside count outcomes rest =
+    let many : m.sites ≡ n.sites = ap (λ (x : Net). x.sites) e in (
+      record { root_stands = lt-ltb root n.sites inside; room_is = refl },
+      count ∙ many,
+      λ w lt. at_same m n other root (λ x r. OutcomeIs k x r w (get_or after w its.Root)) e f (outcomes w (subst (λ s. w < s) (sym many) lt)),
+      subst (λ s. drop s after ≡ drop s before) many rest,
+    )

@@ -5,4 +5,4 @@ use Rattle.grids.specs.Streets.{net, two_ways, row_site}
 use Rattle.grids.proofs.add_rows.Given as goal
 
 abbrev pub invariant-loop-m : goal.invariant-loop-m
-invariant-loop-m l = owned_meaning l.network ≡ net (l.columns * l.rows) (two_ways (row_site l.columns) 1 l.metres l.channels l.m)
+invariant-loop-m l = owned_meaning l.network ≡ net (l.plan.columns * l.plan.rows) (two_ways (row_site l.plan.columns) 1 l.plan.along l.plan.channels l.m)

@@ -1,7 +1,10 @@
--- The copy leaves the buffer with the bytes at their place.
-use Rattle.std.proofs.Common.{arith}
-use Rattle.certificates.proofs.Placings.{part_is}
+-- The copy leaves what stands behind it.
+use Rattle.std.proofs.Common.{◌+◌, ◌-◌, length, ap, arith}
+use Rattle.std.proofs.lemmas.Slice.{drop-put_mid}
 use Rattle.certificates.proofs.writing.put.Goals as goal
 
-pub returns : goal.returns
-returns c = part_is c.args.buffer.now c.args.place _ c.args.bytes.now _ (omega arith) c.copy_from_slice.ensures.after
+pub returns-clause-left : goal.returns-clause-left
+returns-clause-left c =
+    let place = c.args.place in
+    let size = length c.args.bytes.now in
+    drop-put_mid place (place + size - place) c.args.buffer.now c.copy_from_slice.new.self (place + size) (omega arith) (omega arith) (omega (arith, ap length c.copy_from_slice.ensures.after))

@@ -6,24 +6,24 @@ use Rattle.route_links.specs.Along.{given_along}
 use Rattle.route_links.proofs.Channelled.{given_none, give_next}
 use Rattle.route_links.proofs.channels.give_route.Goals as goal
 
-pub loop-at-init : goal.loop-at-init
-loop-at-init g c = (given_none (g.N.Network.meaning c.args.network.now), g.met.N.Network.reflexive c.args.network.now)
+pub loop-link-init : goal.loop-link-init
+loop-link-init g c = (given_none (g.N.Network.meaning c.args.network.now), g.met.N.Network.reflexive c.args.network.now)
 
-pub loop-at-preserved : goal.loop-at-preserved
-loop-at-preserved g c =
+pub loop-link-preserved : goal.loop-link-preserved
+loop-link-preserved g c =
     let n = g.N.Network.meaning c.args.network.now in
     let route = c.args.route.now in
-    let at = c.loop-at.at in
+    let at = c.loop-link.link-index in
     let link = get_or route at 0 in (
       c.give.ensures.after
-          ∙ ap (λ m. give_after m link) c.loop-at.invariant.0
+          ∙ ap (λ m. give_after m link) c.loop-link.invariant.0
           ∙ give_next (take at route) n link
           ∙ ap (λ r. given_along r n) (sym (take_more route at 0 (omega arith))),
-      g.met.N.Network.transitive c.args.network.now c.loop-at.network c.give.new.self c.loop-at.invariant.1 c.give.ensures.keeps,
+      g.met.N.Network.transitive c.args.network.now c.loop-link.network c.give.new.self c.loop-link.invariant.1 c.give.ensures.keeps,
     )
 
 pub returns : goal.returns
 returns g c = record {
-  given = c.loop-at.invariant.0 ∙ ap (λ r. given_along r (g.N.Network.meaning c.args.network.now)) (take_all c.loop-at.at c.args.route.now (omega arith));
-  keeps = c.loop-at.invariant.1;
+  given = c.loop-link.invariant.0 ∙ ap (λ r. given_along r (g.N.Network.meaning c.args.network.now)) (take_all c.loop-link.link-index c.args.route.now (omega arith));
+  keeps = c.loop-link.invariant.1;
 }

@@ -3,7 +3,7 @@ use Rattle.std.proofs.Common.{◌≡◌, take}
 use Rattle.route_links.specs.Along.{metres_along, poles_along}
 use Rattle.route_links.proofs.lengths.add_up.Given as goal
 
-abbrev pub invariant-loop-at : goal.invariant-loop-at
-invariant-loop-at g l =
-    (l.metres ≡ metres_along (g.N.Network.meaning l.network) (take l.at l.route))
-    × (l.poles ≡ poles_along (g.N.Network.meaning l.network) (take l.at l.route))
+abbrev pub invariant-loop-link : goal.invariant-loop-link
+invariant-loop-link g l =
+    (l.metres ≡ metres_along (g.N.Network.meaning l.network) (take l.link-index l.route))
+    × (l.poles ≡ poles_along (g.N.Network.meaning l.network) (take l.link-index l.route))

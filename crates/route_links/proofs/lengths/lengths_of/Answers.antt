@@ -1,9 +1,8 @@
 -- A number that is no link has no length.
-use Rattle.std.proofs.Common.{sym, ◌∙◌}
-use Rattle.route_links.proofs.Summing.{no_lengths}
+use Rattle.std.proofs.Common.{ap, ◌∙◌}
+use Rattle.std.specs.Result.{result_unwrap_or}
+use Rattle.route_links.proofs.Summing.{lengths_told}
 use Rattle.route_links.proofs.lengths.lengths_of.Goals as goal
 
-pub returns-in-Err : goal.returns-in-Err
-returns-in-Err g c =
-    let none = no_lengths (g.N.Network.meaning c.args.network.now) c.args.link c.in-Err.field-0 (sym c.in-Err.is ∙ c.lengths.ensures) in
-    λ i. (sym none.0 i, sym none.1 i)
+pub returns : goal.returns
+returns g c = c.unwrap_or.ensures ∙ ap (λ r. result_unwrap_or r (0, 0)) c.lengths.ensures ∙ lengths_told (g.N.Network.meaning c.args.network.now) c.args.link

@@ -2,7 +2,7 @@
 use Rattle.std.proofs.Common.{◌≡◌, ◌-◌, length}
 use Rattle.sheet_format.specs.Rules.{begun}
 use Rattle.sheets.specs.Taking.{gathered}
-use Rattle.sheets.specs.Reads.{Sofar}
+use Rattle.sheets.proofs.Going.{Sofar}
 use Rattle.sheets.proofs.reading.read_records.Given as goal
 
 abbrev pub invariant-loop-gathering : goal.invariant-loop-gathering

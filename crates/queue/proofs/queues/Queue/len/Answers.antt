@@ -4,4 +4,4 @@ use Rattle.queue.proofs.Soundness.{size_is}
 use Rattle.queue.proofs.queues.Queue.len.Goals as goal
 
 pub returns : goal.returns
-returns g c = sym (size_is g.C.Cost.ops c.args.self.now c.requires)
+returns g c = sym (size_is c.args.self.now)

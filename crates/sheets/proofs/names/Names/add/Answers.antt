@@ -1,8 +1,6 @@
--- The names after one is added.
-use Rattle.std.proofs.Common.{map, ap, ◌∙◌}
-use Rattle.std.proofs.lemmas.List.{map_push}
-use Rattle.sheets.specs.Naming.{entry_of}
+-- The new name's site is above the others, so it comes last.
+use Rattle.sheets.proofs.Finding.{named_more}
 use Rattle.sheets.proofs.names.Names.add.Goals as goal
 
-pub returns-in-Ok : goal.returns-in-Ok
-returns-in-Ok c = ap (map entry_of) c.in-Ok.ensures.items ∙ map_push entry_of _ _
+pub returns : goal.returns
+returns c = named_more c.args.self.now.by_site.entries _ c.args.site c.args.name c.insert.ensures.was_ordered c.requires c.in_ok-insert.ensures.entries

@@ -1,2 +1,0 @@
--- What the proofs of marks share.
-mod Tables

@@ -1,3 +1,0 @@
--- Lemmas on writing.
-pub mod Appending
-pub mod Listing
