@@ -26,6 +26,14 @@ def code_lines(text):
         yield number, bare
 
 
+def matching(patterns):
+    """The places of code that one of some patterns fits."""
+    for crate, path, text in sources():
+        for number, line in code_lines(text):
+            if any(re.search(p, line) for p in patterns):
+                yield path, number, line
+
+
 FUNCTION = re.compile(r"(?:pub(?:\(crate\))? )?(?:const )?fn (\w+)(?:<[^{;]*?>)?\(", re.S)
 
 
@@ -87,10 +95,10 @@ def point_1():
         r"\bNONE\b",
         r"break '\w+ 0;",
     ]
+    for path, number, line in matching(patterns):
+        if "fn is_" not in line:
+            yield path, number, line
     for crate, path, text in sources():
-        for number, line in code_lines(text):
-            if any(re.search(p, line) for p in patterns) and "fn is_" not in line:
-                yield path, number, line
         for f in functions(text):
             if f["answer"] == "u8" and f["body"].strip() == "0":
                 yield path, f["line"], f"fn {f['name']} answers a number that means nothing"
@@ -148,10 +156,7 @@ def point_4():
         r"fn print_(?!help|sheet|records|links|outcome)\w+",
         r"impl\b[^:]* (PartialEq|Eq|PartialOrd|Ord|Clone|Copy|Debug) for ",
     ]
-    for crate, path, text in sources():
-        for number, line in code_lines(text):
-            if any(re.search(p, line) for p in patterns):
-                yield path, number, line
+    yield from matching(patterns)
 
 
 def point_5():
