@@ -1,7 +1,9 @@
-//! The sample task: the sample sheet read, a link closed, another surcharged, channels taken and given.
+//! The sample task: the sample sheet read, a link closed, another surcharged, channels taken and given, and a planning over the sheet.
+use crate::question::Question;
 use crate::refused::{print_fault, print_refusal};
 use crate::sheet::print_sheet;
 use crate::told::print_links;
+use crate::total::CostKind;
 use anyhow::anyhow;
 use layers::closed::Closing;
 use layers::surcharged::Surcharge;
@@ -10,6 +12,8 @@ use networks::network::Network;
 use networks::owned::OwnedNetwork;
 use refusals::Refusal;
 use samples::Sample;
+use sheets::gathering::Sheet;
+use sheets::names::Names;
 use sheets::reading::read;
 
 /// Does the sample task.
@@ -22,15 +26,22 @@ pub fn sample_task(rt: &HostRuntime) -> anyhow::Result<()> {
     println!(rt; "{name}, {count} bytes")?;
     print_sheet(rt, bytes.as_slice())?;
     match read(rt.alloc(), bytes.as_slice()) {
-        Ok(sheet) => work(rt, sheet.network),
+        Ok(sheet) => work(rt, sheet),
         Err(fault) => print_fault(rt, fault),
     }
 }
 
-// Closes link 0, lays a surcharge over the last link, then takes and gives a channel on every link.
-fn work(rt: &HostRuntime, network: OwnedNetwork) -> anyhow::Result<()> {
+// Works on the network of the sheet, then plans over it.
+fn work(rt: &HostRuntime, sheet: Sheet) -> anyhow::Result<()> {
+    let Sheet { network, names } = sheet;
     println!(rt; "as the sheet has it")?;
     print_links(rt, &network)?;
+    let network = lay_over(rt, network)?;
+    plan(rt, network, &names)
+}
+
+// Closes link 0, lays a surcharge over the last link, then takes and gives a channel on every link; lifts both layers off again.
+fn lay_over(rt: &HostRuntime, network: OwnedNetwork) -> anyhow::Result<OwnedNetwork> {
     let mut closing = Closing::over(network);
     print_answer(rt, "close", 0, "closed", closing.close(0))?;
     let mut pile = Surcharge::over(closing);
@@ -46,7 +57,27 @@ fn work(rt: &HostRuntime, network: OwnedNetwork) -> anyhow::Result<()> {
     print_links(rt, &pile)?;
     call_on_every_link(rt, &mut pile, "give", "given back", |n, link| n.give(link))?;
     println!(rt; "after the gives")?;
-    print_links(rt, &pile)
+    print_links(rt, &pile)?;
+    Ok(pile.into_below().into_below())
+}
+
+// Asks for a quote from site 0 to site 5 and for a survey from site 0, then for the quote with a link closed and with it open again.
+fn plan(rt: &HostRuntime, network: OwnedNetwork, names: &Names) -> anyhow::Result<()> {
+    let kind = CostKind::Length;
+    let quote = Question::Quote {
+        root: 0,
+        target: 5,
+        kind,
+    };
+    println!(rt; "both layers lifted off: a quote from site 0 to site 5, by length")?;
+    quote.ask(rt, &network, Some(names))?;
+    println!(rt; "a survey from site 0, by length")?;
+    Question::Survey { root: 0, kind }.ask(rt, &network, Some(names))?;
+    let mut closing = Closing::over(network);
+    print_answer(rt, "close", 2, "closed", closing.close(2))?;
+    quote.ask(rt, &closing, Some(names))?;
+    print_answer(rt, "reopen", 2, "reopened", closing.reopen(2))?;
+    quote.ask(rt, &closing, Some(names))
 }
 
 // Prints what came of a call on a link: that it is done, or why it is refused.

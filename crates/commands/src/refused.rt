@@ -1,6 +1,6 @@
 //! Refusals in words.
 use anyhow::anyhow;
-use refusals::{Carried, Refusal};
+use refusals::{Carried, Refusal, Unlisted};
 use sheets::faults::SheetFault;
 
 /// Prints a refusal of a call: its number and its rule.
@@ -16,17 +16,22 @@ pub fn print_refusal(
     Ok(())
 }
 
-/// Prints a fault of a sheet: its number and place, and below it the rule that the record broke.
+/// Prints a refusal that is an answer by itself: its number, with the place of a record where it carries one, and below it the rule.
 // Lines of several values; the refusal prints its own rule.
-pub fn print_fault(rt: &HostRuntime, fault: SheetFault) -> anyhow::Result<()> {
-    let Ok(refusal) = Refusal::try_from(fault) else {
-        return Err(anyhow!("there is no memory to read the sheet"));
-    };
+pub fn print_rule(rt: &HostRuntime, refusal: Refusal) -> anyhow::Result<()> {
     let number = refusal.number();
     match refusal.value() {
         Carried::Place(place) => println!(rt; "fault {number} at {place}")?,
-        _ => println!(rt; "fault {number}")?,
+        _ => println!(rt; "refused {number}")?,
     }
     println!(rt; "{refusal}")?;
     Ok(())
+}
+
+/// Prints a fault of a sheet: its number and place, and below it the rule that the record broke.
+pub fn print_fault(rt: &HostRuntime, fault: SheetFault) -> anyhow::Result<()> {
+    match Refusal::try_from(fault) {
+        Ok(refusal) => print_rule(rt, refusal),
+        Err(Unlisted) => Err(anyhow!("there is no memory to read the sheet")),
+    }
 }

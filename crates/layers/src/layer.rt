@@ -3,6 +3,6 @@
 /// A network that shows each link of the network below with its change.
 #[derive(Drop)]
 pub struct Layer<N, K> {
-    pub(crate) below: N,
+    pub below: N,
     pub(crate) change: K,
 }

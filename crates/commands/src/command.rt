@@ -1,0 +1,83 @@
+//! The commands, by their words.
+use crate::day::sample_task;
+use crate::help::print_help;
+use crate::question::Question;
+use crate::sheet::{bytes_of, print_sheet};
+use crate::source::Source;
+use crate::words::{kind_of, number_of, source_of};
+use anyhow::anyhow;
+
+/// A command with its words read.
+#[derive(Clone, Copy, PartialEq, Eq, Debug)]
+pub enum Command<'a> {
+    Sample,
+    Help,
+    Read {
+        file: &'a str,
+    },
+    Plan {
+        source: Source<'a>,
+        question: Question,
+    },
+}
+
+impl<'a> Command<'a> {
+    /// The command that words write. Other words than a command takes are an error.
+    pub fn of(words: &[&'a str]) -> anyhow::Result<Command<'a>> {
+        match *words {
+            [] => Ok(Command::Sample),
+            ["help"] => Ok(Command::Help),
+            ["read", file] => Ok(Command::Read { file }),
+            ["quote", source, root, target] => Command::quote(source, root, target, "length"),
+            ["quote", source, root, target, kind] => Command::quote(source, root, target, kind),
+            ["survey", source, root] => Command::survey(source, root, "length"),
+            ["survey", source, root, kind] => Command::survey(source, root, kind),
+            [command, ..] => Err(anyhow!("{}", usage(command))),
+        }
+    }
+
+    fn quote(source: &'a str, root: &str, target: &str, kind: &str) -> anyhow::Result<Command<'a>> {
+        Ok(Command::Plan {
+            source: source_of(source)?,
+            question: Question::Quote {
+                root: number_of(root)?,
+                target: number_of(target)?,
+                kind: kind_of(kind)?,
+            },
+        })
+    }
+
+    fn survey(source: &'a str, root: &str, kind: &str) -> anyhow::Result<Command<'a>> {
+        Ok(Command::Plan {
+            source: source_of(source)?,
+            question: Question::Survey {
+                root: number_of(root)?,
+                kind: kind_of(kind)?,
+            },
+        })
+    }
+
+    /// Does what the command says.
+    pub fn run(self, rt: &HostRuntime) -> anyhow::Result<()> {
+        match self {
+            Command::Sample => sample_task(rt),
+            Command::Help => print_help(rt),
+            Command::Read { file } => {
+                let bytes = bytes_of(rt, file)?;
+                print_sheet(rt, bytes.as_slice())
+            }
+            Command::Plan { source, question } => source.ask(rt, question),
+        }
+    }
+}
+
+// What is said of a command with other words than it takes.
+fn usage(command: &str) -> &'static str {
+    match command {
+        "help" => "write: help",
+        "read" => "write: read FILE",
+        "quote" => "write: quote FILE ROOT TARGET [length|poles]",
+        "survey" => "write: survey FILE ROOT [length|poles]",
+        _ => "no such command: see resklodan help",
+    }
+}
