@@ -33,6 +33,8 @@ mod tests {
         assert!(rt; is_command(&[], Command::Sample));
         assert!(rt; is_command(&["help"], Command::Help));
         assert!(rt; is_command(&["read", "-"], Command::Read { file: "-" }));
+        let certificate = Command::Certificate { file: "1.cert" };
+        assert!(rt; is_command(&["certificate", "1.cert"], certificate));
     }
 
     #[test]
@@ -81,11 +83,12 @@ mod tests {
 
     #[test]
     fn words_of_no_command(rt: HostRuntime) {
-        let refused: [&[&str]; 14] = [
+        let refused: [&[&str]; 15] = [
             &["frobnicate"],
             &["help", "quote"],
             &["read"],
             &["read", "a.sheet", "b.sheet"],
+            &["certificate"],
             &["quote", "-", "0"],
             &["quote", "-", "0", "5", "length", "poles"],
             &["quote", "-", "0", "65536"],

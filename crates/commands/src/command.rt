@@ -1,4 +1,5 @@
 //! The commands, by their words.
+use crate::certificate::print_certificate;
 use crate::day::sample_task;
 use crate::help::print_help;
 use crate::question::Question;
@@ -19,6 +20,9 @@ pub enum Command<'a> {
         source: Source<'a>,
         question: Question,
     },
+    Certificate {
+        file: &'a str,
+    },
 }
 
 impl<'a> Command<'a> {
@@ -32,6 +36,7 @@ impl<'a> Command<'a> {
             ["quote", source, root, target, kind] => Command::quote(source, root, target, kind),
             ["survey", source, root] => Command::survey(source, root, "length"),
             ["survey", source, root, kind] => Command::survey(source, root, kind),
+            ["certificate", file] => Ok(Command::Certificate { file }),
             [command, ..] => Err(anyhow!("{}", usage(command))),
         }
     }
@@ -67,6 +72,10 @@ impl<'a> Command<'a> {
                 print_sheet(rt, bytes.as_slice())
             }
             Command::Plan { source, question } => source.ask(rt, question),
+            Command::Certificate { file } => {
+                let bytes = bytes_of(rt, file)?;
+                print_certificate(rt, bytes.as_slice())
+            }
         }
     }
 }
@@ -78,6 +87,7 @@ fn usage(command: &str) -> &'static str {
         "read" => "write: read FILE",
         "quote" => "write: quote FILE ROOT TARGET [length|poles]",
         "survey" => "write: survey FILE ROOT [length|poles]",
+        "certificate" => "write: certificate FILE",
         _ => "no such command: see resklodan help",
     }
 }

@@ -1,4 +1,6 @@
-//! The sample task: the sample sheet read, a link closed, another surcharged, channels taken and given, and a planning over the sheet.
+//! The sample task: the sample sheet read, a link closed, another surcharged, channels taken and given, and a pair of routes planned and certified.
+use crate::certificate::{certificate_of, print_written};
+use crate::planning::least_pair;
 use crate::question::Question;
 use crate::refused::{print_fault, print_refusal};
 use crate::sheet::print_sheet;
@@ -61,23 +63,35 @@ fn lay_over(rt: &HostRuntime, network: OwnedNetwork) -> anyhow::Result<OwnedNetw
     Ok(pile.into_below().into_below())
 }
 
-// Asks for a quote from site 0 to site 5 and for a survey from site 0, then for the quote with a link closed and with it open again.
+// Asks for a quote from site 0 to site 5 and for a survey from site 0, then for the quote with a link closed and with it open again, and certifies that one.
 fn plan(rt: &HostRuntime, network: OwnedNetwork, names: &Names) -> anyhow::Result<()> {
     let kind = CostKind::Length;
-    let quote = Question::Quote {
-        root: 0,
-        target: 5,
-        kind,
-    };
+    let (root, target) = (0, 5);
+    let quote = Question::Quote { root, target, kind };
     println!(rt; "both layers lifted off: a quote from site 0 to site 5, by length")?;
     quote.ask(rt, &network, Some(names))?;
     println!(rt; "a survey from site 0, by length")?;
-    Question::Survey { root: 0, kind }.ask(rt, &network, Some(names))?;
+    Question::Survey { root, kind }.ask(rt, &network, Some(names))?;
     let mut closing = Closing::over(network);
     print_answer(rt, "close", 2, "closed", closing.close(2))?;
     quote.ask(rt, &closing, Some(names))?;
     print_answer(rt, "reopen", 2, "reopened", closing.reopen(2))?;
-    quote.ask(rt, &closing, Some(names))
+    quote.ask(rt, &closing, Some(names))?;
+    certify(rt, &closing, root, target, kind)
+}
+
+// Writes the certificate of the least pair as circuit 1, prints its bytes, reads these back and prints the fields.
+fn certify<N: Network>(
+    rt: &HostRuntime,
+    network: &N,
+    root: u16,
+    target: u16,
+    kind: CostKind,
+) -> anyhow::Result<()> {
+    let pair = least_pair(network, root, target, kind)?;
+    let certificate = certificate_of(rt.alloc(), network, 1, root, target, &pair)?;
+    println!(rt; "the certificate of circuit 1 over this pair, as bytes and as it reads")?;
+    print_written(rt, &certificate)
 }
 
 // Prints what came of a call on a link: that it is done, or why it is refused.

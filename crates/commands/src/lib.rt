@@ -2,6 +2,7 @@
 #![tactic(auto)]
 
 pub mod answers;
+pub mod certificate;
 pub mod command;
 pub mod day;
 pub mod finding;
