@@ -1,0 +1,2 @@
+-- What the crate's contracts cite.
+pub mod Pairs

@@ -1,0 +1,2 @@
+-- The definitions that the contracts of piles cite.
+pub mod Piles
