@@ -24,7 +24,8 @@ use Rattle.surveys.specs.declared.outcome.Outcome.{Outcome}
 use Rattle.boards.specs.declared.hold.Held.{Held}
 use Rattle.boards.specs.declared.refusing.HoldRefusal.{HoldRefusal}
 use Rattle.boards.specs.declared.refusing.IssueRefusal.{IssueRefusal}
-use Rattle.boards.specs.Calls.{HoldAnswered, Issued}
+use Rattle.boards.specs.declared.refusing.IssueRefusal.TheVariants as not_issued
+use Rattle.boards.specs.Calls.{HoldAnswered, release_answer, Issued}
 use Rattle.boards.specs.Orders.{WhateverTheOrder, TrueQuote, TrueSurvey, TrueHold, TrueChannels, TrueCertificate}
 use Rattle.boards.proofs.Truths.{true_quote, true_survey, true_hold}
 
@@ -40,23 +41,26 @@ links_length r =
     ∙ length_numbered (λ k. retaken (λ t. t + circuits_over r.circuits k)) 0 r.given.links
 
 -- what is told of a link's channels
-told_right : (given : Net) (events : List Event) (link : ℕ) (b : Bool) → (b ≡ true → (link_at (links (register given events)) link).taken ≡ (link_at given link).taken + circuits_over (register given events).circuits link) → TrueChannels given events link (cond b (Ok (channels (link_at (links (register given events)) link))) (Err LinkTooHigh))
-told_right given events link true h = h refl
-told_right given events link false h = tt
+told_right : (given : Net) (events : List Event) (link : ℕ) (b : Bool) → (b ≡ true → (link_at (links (register given events)) link).taken ≡ (link_at given link).taken + circuits_over (register given events).circuits link) → (b ≡ false → nat_lt link (length given.links) ≡ false) → TrueChannels given events link (cond b (Ok (channels (link_at (links (register given events)) link))) (Err LinkTooHigh))
+told_right given events link true there past = there refl
+told_right given events link false there past = past refl
 
 pub channels_right : (number : ℕ) (given : Net) (events : List Event) (s : State) → Agrees number given events s → (link : ℕ) → TrueChannels given events link (told channels (shown s) link)
 channels_right number given events s is link =
     let r = register given events in
     let same : length (links r).links ≡ length given.links = links_length r ∙ ap (λ n. length n.links) (register_given given events) in
     subst (λ n. TrueChannels given events link (told channels n link)) (sym (shows_links number given events s is))
-    (told_right given events link (nat_lt link (length (links r).links)) (λ there. taken_are_counted given events link (subst (λ m. link < m) same (ltb-true link (length (links r).links) there))))
+    (told_right given events link (nat_lt link (length (links r).links))
+    (λ there. taken_are_counted given events link (subst (λ m. link < m) same (ltb-true link (length (links r).links) there)))
+    (λ past. ap (nat_lt link) (sym same) ∙ past))
 
 -- a certificate written
-pub certificate_right : (number : ℕ) (given : Net) (events : List Event) (s : State) → Agrees number given events s → (circuit : ℕ) (answer : Result ℕ IssueRefusal) (before after : List ℕ) → Issued s.rows circuit answer before after → TrueCertificate given events circuit answer after
+pub certificate_right : (number : ℕ) (given : Net) (events : List Event) (s : State) → Agrees number given events s → (circuit : ℕ) (answer : Result ℕ IssueRefusal) (before after : List ℕ) → Issued s.rows circuit answer before after → TrueCertificate given events circuit answer before after
 certificate_right number given events s is circuit (Ok count) before after (f, row, own, wrote) =
     let entry : (register given events).circuits circuit ≡ confirmed f = sym (ap (λ t. t.rows circuit) is) ∙ row in
     (f, wrote.1, subst (EntryHeldSo given events circuit) entry (circuits_are_held_so given events circuit))
-certificate_right number given events s is circuit (Err why) before after issued = tt
+certificate_right number given events s is circuit (Err (not_issued.Ledger why)) before after issued = ap (λ t. release_answer t.rows circuit) (sym is) ∙ issued.0
+certificate_right number given events s is circuit (Err not_issued.BufferTooShort) before after ((f, row, short), same) = (f, sym (ap (λ t. t.rows circuit) is) ∙ row, short)
 
 -- what is answered over what a board shows is true of the links of every register that it agrees with
 pub quote_right : {C : Type 0} (k : Ops C) (s : State) (root target : ℕ) (room : Bool) (answer : Result (Quote C) PlannerRefusal) (one two one_after two_after : List ℕ) → Quoted k (shown s) root target room answer one two one_after two_after → (number : ℕ) (given : Net) (events : List Event) → Agrees number given events s → TrueQuote k (links (register given events)) root target room answer one_after two_after
@@ -81,5 +85,6 @@ whatever_the_order k number given events s came =
       holds = λ circuit root target room answer one two one_after two_after h. hold_right k s circuit root target room answer one two one_after two_after h number given events is;
       taken = channels_right number given events s is;
       once = circuits_run_once number given events s came;
+      rows = λ circuit. subst (EntryHeldSo given events circuit) (ap (λ t. t.rows circuit) (sym is)) (circuits_are_held_so given events circuit);
       certificates = certificate_right number given events s is;
     }

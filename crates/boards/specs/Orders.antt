@@ -1,5 +1,5 @@
 -- What stands whatever the order of calls on a board.
-use Rattle.std.specs.Prelude.{◌≡◌, ℕ, ◌+◌, ◌<◌, ◌≤◌, Bool, true, false, List, take, Ok, Err, Result, nat_lt, slice_index_or}
+use Rattle.std.specs.Prelude.{◌≡◌, ℕ, ◌+◌, ◌<◌, ◌≤◌, Bool, true, false, List, length, take, Ok, Err, Result, nat_lt, slice_index_or}
 use Rattle.costs.specs.Costs.{Ops}
 use Rattle.networks.specs.Meaning.{Net, link_at}
 use Rattle.networks.specs.declared.model.NetworkRefusal.{NetworkRefusal}
@@ -16,17 +16,18 @@ use Rattle.quotes.specs.declared.quotation.Quote.{Quote}
 use Rattle.surveys.specs.Surveys.{RootAsked, Surveyed, told as entry_told}
 use Rattle.surveys.specs.declared.outcome.Outcome.{Outcome}
 use Rattle.surveys.specs.declared.outcome.Outcome.TheVariants as its
-use Rattle.ledger.specs.Rows.{hold_answer}
+use Rattle.ledger.specs.Rows.{confirmed, hold_answer}
 use Rattle.registers.specs.States.{State, shown}
 use Rattle.registers.specs.Events.{Event}
 use Rattle.registers.specs.Registers.{Register, register, links, circuits_over, runs_over}
 use Rattle.registers.specs.Histories.{Came, Agrees}
-use Rattle.registers.specs.Theorems.{HeldSo}
-use Rattle.boards.specs.Calls.{HoldAnswered, Issued}
+use Rattle.registers.specs.Theorems.{HeldSo, EntryHeldSo}
+use Rattle.boards.specs.Calls.{HoldAnswered, release_answer, Issued}
 use Rattle.boards.specs.declared.hold.Held.{Held}
 use Rattle.boards.specs.declared.refusing.HoldRefusal.{HoldRefusal}
 use Rattle.boards.specs.declared.refusing.HoldRefusal.TheVariants as not_held
 use Rattle.boards.specs.declared.refusing.IssueRefusal.{IssueRefusal}
+use Rattle.boards.specs.declared.refusing.IssueRefusal.TheVariants as not_issued
 
 -- a planner's refusal is true of a network, where tables are long enough or not: no two different sites; else a table too short; else no route, or the link that all routes use and meet first
 abbrev pub TrueRefusal : {C : Type 0} → Ops C → Net → ℕ → ℕ → Bool → PlannerRefusal → Type 0
@@ -58,15 +59,16 @@ TrueHold k r circuit root target room (Err (not_held.Ledger why)) one two = hold
 TrueHold k r circuit root target room (Err (not_held.Planner why)) one two = (hold_answer r.circuits circuit ≡ Ok tt) × TrueRefusal k (links r) root target room why
 TrueHold k r circuit root target room (Err not_held.Memory) one two = hold_answer r.circuits circuit ≡ Ok tt
 
--- what is told of a link's channels: those taken are those at the beginning, and one for each circuit that runs over the link
+-- what is told of a link's channels: those taken are those at the beginning, and one for each circuit that runs over the link; nothing is told where there is no such link
 abbrev pub TrueChannels : Net → List Event → ℕ → Result (ℕ × ℕ) NetworkRefusal → Type 0
-TrueChannels given events link (Ok told) = told.1 ≡ (link_at given link).taken + circuits_over (register given events).circuits link
-TrueChannels given events link (Err why) = Unit {0}
+TrueChannels given events link (Ok both) = both.1 ≡ (link_at given link).taken + circuits_over (register given events).circuits link
+TrueChannels given events link (Err why) = nat_lt link (length given.links) ≡ false
 
--- a certificate written: it says what its circuit's hold was asked for and answered, with the sums of the links as they stood then
-abbrev pub TrueCertificate : Net → List Event → ℕ → Result ℕ IssueRefusal → List ℕ → Type 0
-TrueCertificate given events circuit (Ok count) buffer = (f : Fields) × (take count buffer ≡ certificate_bytes f) × HeldSo given events circuit f
-TrueCertificate given events circuit (Err why) buffer = Unit {0}
+-- a certificate written: it says what its circuit's hold was asked for and answered, with the sums of the links as they stood then; refused, the register's circuit is not confirmed, or the buffer is too short for what it says
+abbrev pub TrueCertificate : Net → List Event → ℕ → Result ℕ IssueRefusal → List ℕ → List ℕ → Type 0
+TrueCertificate given events circuit (Ok count) before after = (f : Fields) × (take count after ≡ certificate_bytes f) × HeldSo given events circuit f
+TrueCertificate given events circuit (Err (not_issued.Ledger why)) before after = release_answer (register given events).circuits circuit ≡ Err why
+TrueCertificate given events circuit (Err not_issued.BufferTooShort) before after = (f : Fields) × ((register given events).circuits circuit ≡ confirmed f) × (length before < length (certificate_bytes f))
 
 -- what stands of a board and its register: whatever it answers next is true of the register as it is before that call
 pub record Trusted {C : Type 0} (k : Ops C) (number : ℕ) (given : Net) (events : List Event) (s : State) : Type 0 where
@@ -79,8 +81,9 @@ pub record Trusted {C : Type 0} (k : Ops C) (number : ℕ) (given : Net) (events
   -- so are the channels told as taken, where no circuit runs over a link twice
   pub taken : (link : ℕ) → TrueChannels given events link (told channels (shown s) link)
   pub once : (circuit link : ℕ) → runs_over ((register given events).circuits circuit) link ≤ 1
-  -- and a certificate written
-  pub certificates : (circuit : ℕ) (answer : Result ℕ IssueRefusal) (before after : List ℕ) → Issued s.rows circuit answer before after → TrueCertificate given events circuit answer after
+  -- what stands in a row was held so, and a certificate written is true
+  pub rows : (circuit : ℕ) → EntryHeldSo given events circuit (s.rows circuit)
+  pub certificates : (circuit : ℕ) (answer : Result ℕ IssueRefusal) (before after : List ℕ) → Issued s.rows circuit answer before after → TrueCertificate given events circuit answer before after
 
 -- so for every board number, every network given, and every order and number of calls, refused ones included
 abbrev pub WhateverTheOrder : {C : Type 0} → Ops C → Type 0

@@ -28,7 +28,7 @@ impl<N: Network> Board<N> {
     // What is written is told of the board by the private call, and here of every register that the board agrees with.
     pub fn certificate(&self, circuit: u8, buffer: &mut [u8]) -> Result<usize, IssueRefusal>
         ensures answer { Issued (state N.Network.meaning self.now).rows circuit result buffer.old buffer.new }
-        ensures right { (number : ℕ) (given : Net) (events : List Event) → Agrees number given events (state N.Network.meaning self.now) → TrueCertificate given events circuit result buffer.new }
+        ensures right { (number : ℕ) (given : Net) (events : List Event) → Agrees number given events (state N.Network.meaning self.now) → TrueCertificate given events circuit result buffer.old buffer.new }
         ensures does { Does (state N.Network.meaning self.now) (event (certificate circuit) (is_ok result)) (state N.Network.meaning self.now) }
     {
         self.issue(circuit, buffer)

@@ -1,5 +1,5 @@
 //! Holding a circuit: a quote that also takes a channel on each link and fills the circuit's row.
-ghost use Rattle.std.specs.Prelude.{◌≡◌, ℕ, ◌≤◌, ◌&&◌, true, List, [], ◌∷◌, length, take, vec_items, IfOk, Ok};
+ghost use Rattle.std.specs.Prelude.{◌≡◌, ℕ, ◌≤◌, ◌&&◌, true, List, [], ◌∷◌, length, take, vec_items, IfOk, Ok, OnErr};
 ghost use Rattle.networks.specs.Meaning.{Net};
 ghost use Rattle.planner_tables.specs.Room.{all_fit, long_enough};
 ghost use Rattle.registers.specs.States.{shown};
@@ -103,6 +103,7 @@ impl<N: Network> Board<N> {
         two: &mut [u16],
     ) -> Result<Held, HoldRefusal>
         ensures answer { HoldAnswered C.Cost.ops (state N.Network.meaning self.old) circuit root target (long_enough (shown (state N.Network.meaning self.old)).sites M.Marks.rooms tables.entry && all_fit (shown (state N.Network.meaning self.old)).sites (length one.old ∷ length two.old ∷ [])) result one.old two.old one.new two.new }
+        ensures refused { OnErr result (self.new ≡ self.old) }
         ensures does { Does (state N.Network.meaning self.old) (hold_event circuit root target result one.new two.new) (state N.Network.meaning self.new) }
     {
         self.ledger.can_hold(circuit)?;
@@ -131,6 +132,7 @@ impl<N: Network> Board<N> {
     ) -> Result<Held, HoldRefusal>
         ensures answer { HoldAnswered C.Cost.ops (state N.Network.meaning self.old) circuit root target (long_enough (shown (state N.Network.meaning self.old)).sites M.Marks.rooms tables.entry && all_fit (shown (state N.Network.meaning self.old)).sites (length one.old ∷ length two.old ∷ [])) result one.old two.old one.new two.new }
         ensures right { (number : ℕ) (given : Net) (events : List Event) → Agrees number given events (state N.Network.meaning self.old) → TrueHold C.Cost.ops (register given events) circuit root target (long_enough (shown (state N.Network.meaning self.old)).sites M.Marks.rooms tables.entry && all_fit (shown (state N.Network.meaning self.old)).sites (length one.old ∷ length two.old ∷ [])) result one.new two.new }
+        ensures refused { OnErr result (self.new ≡ self.old) }
         ensures does { Does (state N.Network.meaning self.old) (hold_event circuit root target result one.new two.new) (state N.Network.meaning self.new) }
     {
         self.hold_pair(heap, circuit, root, target, tables, one, two)

@@ -4,6 +4,7 @@
 mod board;
 mod certifying;
 mod changing;
+mod composing;
 mod hold;
 mod holding;
 mod planning;
@@ -13,6 +14,7 @@ mod telling;
 mod theorems;
 
 pub use board::Board;
+pub use composing::quote_without;
 pub use hold::{Held, Hold, ReturnedHold};
 pub use refusing::{HoldRefusal, IssueRefusal};
 pub use theorems::whatever_the_order;

@@ -1,5 +1,5 @@
 //! How a hold ends, in a confirmation or a withdrawal, and how a confirmed circuit is released.
-ghost use Rattle.std.specs.Prelude.{◌≡◌, is_ok};
+ghost use Rattle.std.specs.Prelude.{◌≡◌, is_ok, OnErr};
 ghost use Rattle.registers.specs.Events.{confirm, withdraw, release};
 ghost use Rattle.boards.specs.Boards.{state};
 ghost use Rattle.boards.specs.Calls.{event, Does, HandedBack, release_answer};
@@ -14,6 +14,7 @@ impl<N: Network> Board<N> {
     /// Confirms the circuit of a hold. A hold of another board, or whose row is not held, is handed back.
     pub fn confirm(&mut self, hold: Hold) -> Result<(), ReturnedHold>
         ensures back { HandedBack hold result }
+        ensures refused { OnErr result (self.new ≡ self.old) }
         ensures does { Does (state N.Network.meaning self.old) (event (confirm hold.board hold.circuit) (is_ok result)) (state N.Network.meaning self.new) }
     {
         if hold.board != self.number || self.ledger.confirm(hold.circuit).is_err() {
@@ -26,6 +27,7 @@ impl<N: Network> Board<N> {
     /// Withdraws a hold: gives its channels back and vacates its row. A hold of another board, or whose row is not held, is handed back.
     pub fn withdraw(&mut self, hold: Hold) -> Result<(), ReturnedHold>
         ensures back { HandedBack hold result }
+        ensures refused { OnErr result (self.new ≡ self.old) }
         ensures does { Does (state N.Network.meaning self.old) (event (withdraw hold.board hold.circuit) (is_ok result)) (state N.Network.meaning self.new) }
     {
         if hold.board != self.number {
@@ -42,10 +44,11 @@ impl<N: Network> Board<N> {
     /// Releases a confirmed circuit: gives its channels back and vacates its row.
     pub fn release(&mut self, circuit: u8) -> Result<(), LedgerRefusal>
         ensures answer { result ≡ release_answer (state N.Network.meaning self.old).rows circuit }
+        ensures refused { OnErr result (self.new ≡ self.old) }
         ensures does { Does (state N.Network.meaning self.old) (event (release circuit) (is_ok result)) (state N.Network.meaning self.new) }
     {
-        let certificate = self.ledger.release(circuit)?;
-        give_pair(&mut self.pile, certificate.one(), certificate.two());
+        let released = self.ledger.release(circuit)?;
+        give_pair(&mut self.pile, released.one(), released.two());
         Ok(())
     }
 }

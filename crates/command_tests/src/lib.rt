@@ -1,5 +1,8 @@
-//! Tests of the program's commands: which words make which command, which make none, and how answers are told.
+//! Tests of the program's commands: which words make which command, which make none, how answers are told, and which lines of a script make which call.
 #![tactic(auto)]
+
+#[cfg(test)]
+mod scripts;
 
 #[cfg(test)]
 mod tests {
@@ -35,6 +38,17 @@ mod tests {
         assert!(rt; is_command(&["read", "-"], Command::Read { file: "-" }));
         let certificate = Command::Certificate { file: "1.cert" };
         assert!(rt; is_command(&["certificate", "1.cert"], certificate));
+        let board = Command::Board {
+            source: Source::Sheet("a.sheet"),
+            script: "-",
+        };
+        assert!(rt; is_command(&["board", "a.sheet", "-"], board));
+        let board = Command::Board {
+            source: GRID,
+            script: "day.script",
+        };
+        let words = ["board", "grid:4:3:1000000:150:255", "day.script"];
+        assert!(rt; is_command(&words, board));
     }
 
     #[test]
@@ -83,12 +97,15 @@ mod tests {
 
     #[test]
     fn words_of_no_command(rt: HostRuntime) {
-        let refused: [&[&str]; 15] = [
+        let refused: [&[&str]; 18] = [
             &["frobnicate"],
             &["help", "quote"],
             &["read"],
             &["read", "a.sheet", "b.sheet"],
             &["certificate"],
+            &["board", "a.sheet"],
+            &["board", "-", "-"],
+            &["board", "grid:4:3", "-"],
             &["quote", "-", "0"],
             &["quote", "-", "0", "5", "length", "poles"],
             &["quote", "-", "0", "65536"],

@@ -1,21 +1,16 @@
-//! Certificates: of a pair of routes, as bytes, and as they are told.
-use crate::answers::Pair;
+//! Certificates: as bytes, and as they are told.
 use crate::refused::print_rule;
 use crate::routes::print_links_of;
 use anyhow::anyhow;
+use boards::Board;
 use certificates::certificate::Certificate;
-use certificates::fields::CertificateFields;
 use certificates::reading::read;
 use networks::network::Network;
 use refusals::{Refusal, Unlisted};
-use route_links::add_up;
-use std::alloc::Global;
+use std::fs;
 
 // The most bytes of a certificate.
 const MOST_BYTES: usize = 1042;
-
-// The most links of one route.
-const MOST_LINKS: usize = 255;
 
 /// Prints the fields of a certificate, a line for each.
 pub fn print_fields(rt: &HostRuntime, certificate: &Certificate) -> anyhow::Result<()> {
@@ -52,46 +47,30 @@ pub fn print_bytes(rt: &HostRuntime, bytes: &[u8]) -> anyhow::Result<()> {
     Ok(())
 }
 
-// The metres and the pole metres of a route.
-fn lengths_of<N: Network>(network: &N, route: &[u16]) -> anyhow::Result<(u32, u32)> {
-    if route.len() > MOST_LINKS {
-        return Err(anyhow!("a route has too many links"));
-    }
-    Ok(add_up(network, route))
-}
-
-/// The certificate of a circuit over a pair of routes, with their lengths in the network.
-pub fn certificate_of<N: Network>(
-    heap: Global,
-    network: &N,
-    circuit: u16,
-    root: u16,
-    target: u16,
-    pair: &Pair,
-) -> anyhow::Result<Certificate> {
-    let one = pair.one.links();
-    let two = pair.two.links();
-    let (metres_one, poles_one) = lengths_of(network, one)?;
-    let (metres_two, poles_two) = lengths_of(network, two)?;
-    let fields = CertificateFields {
-        circuit,
-        root,
-        target,
-        metres: metres_one.saturating_add(metres_two),
-        poles: poles_one.saturating_add(poles_two),
-        one: one.to_vec(heap)?,
-        two: two.to_vec(heap)?,
-    };
-    Ok(Certificate::new(fields)?)
-}
-
-/// Writes a certificate, prints its bytes, reads these back and prints the fields.
-pub fn print_written(rt: &HostRuntime, certificate: &Certificate) -> anyhow::Result<()> {
-    let mut buffer = [0u8; MOST_BYTES];
-    let count = certificate.write(&mut buffer)?;
-    let Some(bytes) = buffer.get(..count) else {
-        return Err(anyhow!("a certificate has too many bytes"));
-    };
+// Prints the bytes of a certificate, writes them to a file if one is named, reads them back and prints the fields.
+fn print_written(rt: &HostRuntime, bytes: &[u8], file: Option<&str>) -> anyhow::Result<()> {
     print_bytes(rt, bytes)?;
+    if let Some(file) = file {
+        fs::write(rt, file, bytes)?;
+        let count = bytes.len();
+        println!(rt; "{count} bytes written to {file}")?;
+    }
     print_certificate(rt, bytes)
+}
+
+/// Prints the certificate of a confirmed circuit, and writes it to a file if one is named; or prints why it is refused.
+pub fn print_issued<N: Network>(
+    rt: &HostRuntime,
+    board: &Board<N>,
+    circuit: u8,
+    file: Option<&str>,
+) -> anyhow::Result<()> {
+    let mut buffer = [0u8; MOST_BYTES];
+    match board.certificate(circuit, &mut buffer) {
+        Ok(count) => match buffer.get(..count) {
+            Some(bytes) => print_written(rt, bytes, file),
+            None => Err(anyhow!("a certificate has too many bytes")),
+        },
+        Err(refusal) => print_rule(rt, refusal.into()),
+    }
 }

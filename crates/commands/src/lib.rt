@@ -2,7 +2,9 @@
 #![tactic(auto)]
 
 pub mod answers;
+pub mod board;
 pub mod certificate;
+pub mod circuits;
 pub mod command;
 pub mod day;
 pub mod finding;
@@ -13,8 +15,10 @@ pub mod printing;
 pub mod question;
 pub mod refused;
 pub mod routes;
+pub mod script;
 pub mod sheet;
 pub mod source;
+pub mod task;
 pub mod told;
 pub mod total;
 pub mod words;

@@ -4,6 +4,7 @@ use crate::finding::Finding;
 use crate::label::Label;
 use crate::refused::print_rule;
 use crate::routes::{print_links_of, print_route, print_step};
+use boards::Board;
 use networks::network::Network;
 use planner_tables::PlannerRefusal;
 use sheets::names::Names;
@@ -35,15 +36,15 @@ impl fmt::Display for Row<'_> {
 /// Prints a quote.
 pub fn print_quote<N: Network>(
     rt: &HostRuntime,
-    network: &N,
+    board: &Board<N>,
     names: Option<&Names>,
     quote: Result<Pair, PlannerRefusal>,
 ) -> anyhow::Result<()> {
     match quote {
-        Ok(pair) => print_pair(rt, network, names, &pair),
+        Ok(pair) => print_pair(rt, board, names, &pair),
         Err(PlannerRefusal::OneLink { link }) => {
             print_finding(rt, Finding::Cut(link))?;
-            print_step(rt, network, names, "cut", link)
+            print_step(rt, board, names, "cut", link)
         }
         Err(PlannerRefusal::NoRoute) => print_finding(rt, Finding::None),
         Err(refusal) => print_rule(rt, refusal.into()),
@@ -57,7 +58,7 @@ fn print_finding(rt: &HostRuntime, finding: Finding) -> anyhow::Result<()> {
 
 fn print_pair<N: Network>(
     rt: &HostRuntime,
-    network: &N,
+    board: &Board<N>,
     names: Option<&Names>,
     pair: &Pair,
 ) -> anyhow::Result<()> {
@@ -65,33 +66,33 @@ fn print_pair<N: Network>(
     let two = pair.two.links();
     print_finding(rt, Finding::Pair(pair.total))?;
     print_links_of(rt, one, two)?;
-    print_route(rt, network, names, "one", one)?;
-    print_route(rt, network, names, "two", two)
+    print_route(rt, board, names, "one", one)?;
+    print_route(rt, board, names, "two", two)
 }
 
 /// Prints a survey.
 pub fn print_survey<N: Network>(
     rt: &HostRuntime,
-    network: &N,
+    board: &Board<N>,
     names: Option<&Names>,
     root: u16,
     survey: Result<Survey, PlannerRefusal>,
 ) -> anyhow::Result<()> {
     match survey {
-        Ok(survey) => print_rows(rt, network, names, root, &survey),
+        Ok(survey) => print_rows(rt, board, names, root, &survey),
         Err(refusal) => print_rule(rt, refusal.into()),
     }
 }
 
 fn print_rows<N: Network>(
     rt: &HostRuntime,
-    network: &N,
+    board: &Board<N>,
     names: Option<&Names>,
     root: u16,
     survey: &Survey,
 ) -> anyhow::Result<()> {
-    let sites = network.sites();
-    let links = network.links();
+    let sites = board.sites();
+    let links = board.links();
     println!(rt; "root {root} sites {sites} links {links}")?;
     for (site, finding) in (0..sites).zip(survey.findings()) {
         if let Some(finding) = *finding {

@@ -2,6 +2,7 @@
 use crate::planning::{least_pair, survey_all};
 use crate::printing::{print_quote, print_survey};
 use crate::total::CostKind;
+use boards::Board;
 use networks::network::Network;
 use sheets::names::Names;
 
@@ -20,21 +21,21 @@ pub enum Question {
 }
 
 impl Question {
-    /// Asks the planner, and prints what it answers.
+    /// Asks the planner of a board, and prints what it answers.
     pub fn ask<N: Network>(
         self,
         rt: &HostRuntime,
-        network: &N,
+        board: &Board<N>,
         names: Option<&Names>,
     ) -> anyhow::Result<()> {
         match self {
             Question::Quote { root, target, kind } => {
-                let quote = least_pair(network, root, target, kind);
-                print_quote(rt, network, names, quote)
+                let quote = least_pair(board, root, target, kind);
+                print_quote(rt, board, names, quote)
             }
             Question::Survey { root, kind } => {
-                let survey = survey_all(network, root, kind);
-                print_survey(rt, network, names, root, survey)
+                let survey = survey_all(board, root, kind);
+                print_survey(rt, board, names, root, survey)
             }
         }
     }

@@ -3,25 +3,13 @@ use anyhow::anyhow;
 use refusals::{Carried, Refusal, Unlisted};
 use sheets::faults::SheetFault;
 
-/// Prints a refusal of a call: its number and its rule.
-// A line of several values; the refusal prints its own rule.
-pub fn print_refusal(
-    rt: &HostRuntime,
-    call: &str,
-    link: u16,
-    refusal: Refusal,
-) -> anyhow::Result<()> {
-    let number = refusal.number();
-    println!(rt; "{call} {link}: refused {number}: {refusal}")?;
-    Ok(())
-}
-
-/// Prints a refusal that is an answer by itself: its number, with the place of a record where it carries one, and below it the rule.
+/// Prints a refusal that is an answer by itself: its number, with the place of a record or the link where it carries one, and below it the rule.
 // Lines of several values; the refusal prints its own rule.
 pub fn print_rule(rt: &HostRuntime, refusal: Refusal) -> anyhow::Result<()> {
     let number = refusal.number();
     match refusal.value() {
         Carried::Place(place) => println!(rt; "fault {number} at {place}")?,
+        Carried::Link(link) => println!(rt; "refused {number} at link {link}")?,
         _ => println!(rt; "refused {number}")?,
     }
     println!(rt; "{refusal}")?;

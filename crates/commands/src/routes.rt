@@ -1,6 +1,7 @@
 //! The routes of a pair, as they are told.
 use crate::label::Label;
 use anyhow::anyhow;
+use boards::Board;
 use networks::model::NetworkRefusal;
 use networks::network::Network;
 use sheets::names::Names;
@@ -29,14 +30,14 @@ pub struct Step<'a> {
 }
 
 impl<'a> Step<'a> {
-    // Asks a network for the ends and lengths of a link.
+    // Asks a board for the ends and lengths of a link.
     fn of<N: Network>(
-        network: &N,
+        board: &Board<N>,
         names: Option<&Names<'a>>,
         link: u16,
     ) -> Result<Step<'a>, NetworkRefusal> {
-        let (start, end) = network.ends(link)?;
-        let lengths = network.lengths(link)?;
+        let (start, end) = board.ends(link)?;
+        let lengths = board.lengths(link)?;
         Ok(Step {
             link,
             start: Label::of(start, names),
@@ -74,12 +75,12 @@ pub fn print_links_of(rt: &HostRuntime, one: &[u16], two: &[u16]) -> anyhow::Res
 /// Prints a link with the names of its sites, and before it the word for what it is a part of.
 pub fn print_step<N: Network>(
     rt: &HostRuntime,
-    network: &N,
+    board: &Board<N>,
     names: Option<&Names>,
     word: &str,
     link: u16,
 ) -> anyhow::Result<()> {
-    match Step::of(network, names, link) {
+    match Step::of(board, names, link) {
         Ok(step) => println!(rt; "  {word}: {step}")?,
         Err(_) => return Err(anyhow!("a planning answered a link that is none")),
     }
@@ -89,13 +90,13 @@ pub fn print_step<N: Network>(
 /// Prints a route link by link.
 pub fn print_route<N: Network>(
     rt: &HostRuntime,
-    network: &N,
+    board: &Board<N>,
     names: Option<&Names>,
     word: &str,
     links: &[u16],
 ) -> anyhow::Result<()> {
     for link in links {
-        print_step(rt, network, names, word, *link)?;
+        print_step(rt, board, names, word, *link)?;
     }
     Ok(())
 }

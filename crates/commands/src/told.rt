@@ -1,11 +1,12 @@
-//! What a network tells of its links.
-use crate::refused::print_refusal;
+//! What a board tells of a link, and the totals of a network.
+use crate::refused::print_rule;
 use anyhow::anyhow;
+use boards::Board;
 use networks::model::NetworkRefusal;
 use networks::network::Network;
 use std::fmt;
 
-/// The numbers that a network tells of one link.
+/// The numbers that a board tells of one link.
 #[derive(Clone, Copy)]
 pub struct Told {
     ends: (u16, u16),
@@ -46,13 +47,13 @@ impl fmt::Display for Totals {
     }
 }
 
-/// Asks a network everything of one link.
-pub fn ask<N: Network>(network: &N, link: u16) -> Result<Told, NetworkRefusal> {
+/// Asks a board everything of one link.
+pub fn ask<N: Network>(board: &Board<N>, link: u16) -> Result<Told, NetworkRefusal> {
     Ok(Told {
-        ends: network.ends(link)?,
-        lengths: network.lengths(link)?,
-        channels: network.channels(link)?,
-        lit: network.is_lit(link)?,
+        ends: board.ends(link)?,
+        lengths: board.lengths(link)?,
+        channels: board.channels(link)?,
+        lit: board.is_lit(link)?,
     })
 }
 
@@ -64,9 +65,8 @@ pub fn add_up<N: Network>(network: &N) -> Result<Totals, NetworkRefusal> {
         channels: 0,
     };
     for link in 0..network.links() {
-        let told = ask(network, link)?;
-        let (metres, poles) = told.lengths;
-        let (channels, _) = told.channels;
+        let (metres, poles) = network.lengths(link)?;
+        let (channels, _) = network.channels(link)?;
         sums.metres = sums.metres.saturating_add(u64::from(metres));
         sums.poles = sums.poles.saturating_add(u64::from(poles));
         sums.channels = sums.channels.saturating_add(u64::from(channels));
@@ -74,16 +74,15 @@ pub fn add_up<N: Network>(network: &N) -> Result<Totals, NetworkRefusal> {
     Ok(sums)
 }
 
-/// Prints every link of a network.
-// Its own loop beside that of the sums: one prints, the other adds up, and either stops at other errors.
-pub fn print_links<N: Network>(rt: &HostRuntime, network: &N) -> anyhow::Result<()> {
-    for link in 0..network.links() {
-        match ask(network, link) {
-            Ok(told) => println!(rt; "  link {link}: {told}")?,
-            Err(refusal) => print_refusal(rt, "link", link, refusal.into())?,
+/// Prints what a board tells of a link.
+pub fn print_link<N: Network>(rt: &HostRuntime, board: &Board<N>, link: u16) -> anyhow::Result<()> {
+    match ask(board, link) {
+        Ok(told) => {
+            println!(rt; "{told}")?;
+            Ok(())
         }
+        Err(refusal) => print_rule(rt, refusal.into()),
     }
-    Ok(())
 }
 
 /// Prints a network's totals.

@@ -1,7 +1,8 @@
-//! Makes the sample sheets. Alone it holds each file of this folder to what it makes and tells how it reads; with the word `write` it writes the files.
+//! Makes the sample sheets, and the script of the sample task. Alone it holds each file of this folder to what it makes and tells how a sheet reads; with the word `write` it writes the files.
 #![tactic(auto)]
 
 use anyhow::anyhow;
+use commands::day::DAY;
 use commands::refused::print_fault;
 use commands::sheet::print_sheet;
 use commands::told::print_totals;
@@ -9,6 +10,9 @@ use records::WriteFault;
 use samples::Sample;
 use sheets::reading::read;
 use std::{env, fs};
+
+// The file of the script of the sample task.
+const SCRIPT_NAME: &str = "day.script";
 
 // Prints a small sheet whole, and a large one by its totals.
 fn print_outcome(rt: &HostRuntime, bytes: &[u8]) -> anyhow::Result<()> {
@@ -29,25 +33,33 @@ fn said(fault: WriteFault) -> anyhow::Error {
     }
 }
 
-fn compare(rt: &HostRuntime, sample: Sample) -> anyhow::Result<()> {
-    let name = sample.file_name();
-    let bytes = sample.bytes(rt.alloc()).map_err(said)?;
+// Holds a file to the bytes that are made for it, and says whether it has them.
+fn compare(rt: &HostRuntime, name: &str, bytes: &[u8]) -> anyhow::Result<()> {
     let stored = fs::read(rt, name)?;
     let count = bytes.len();
-    if stored.as_slice() == bytes.as_slice() {
+    if stored.as_slice() == bytes {
         println!(rt; "{name}: {count} bytes, as in the file")?;
     } else {
         println!(rt; "{name}: {count} bytes, DIFFERENT from the file")?;
     }
+    Ok(())
+}
+
+fn compare_sample(rt: &HostRuntime, sample: Sample) -> anyhow::Result<()> {
+    let bytes = sample.bytes(rt.alloc()).map_err(said)?;
+    compare(rt, sample.file_name(), bytes.as_slice())?;
     print_outcome(rt, bytes.as_slice())
 }
 
-fn write(rt: &HostRuntime, sample: Sample) -> anyhow::Result<()> {
-    let name = sample.file_name();
-    let bytes = sample.bytes(rt.alloc()).map_err(said)?;
-    fs::write(rt, name, bytes.as_slice())?;
+fn write(rt: &HostRuntime, name: &str, bytes: &[u8]) -> anyhow::Result<()> {
+    fs::write(rt, name, bytes)?;
     println!(rt; "{name} written")?;
     Ok(())
+}
+
+fn write_sample(rt: &HostRuntime, sample: Sample) -> anyhow::Result<()> {
+    let bytes = sample.bytes(rt.alloc()).map_err(said)?;
+    write(rt, sample.file_name(), bytes.as_slice())
 }
 
 fn run(rt: &HostRuntime) -> anyhow::Result<()> {
@@ -57,12 +69,16 @@ fn run(rt: &HostRuntime) -> anyhow::Result<()> {
     // Asked at each sample: two loops would differ in the call alone.
     for sample in Sample::ALL {
         if writes {
-            write(rt, sample)?;
+            write_sample(rt, sample)?;
         } else {
-            compare(rt, sample)?;
+            compare_sample(rt, sample)?;
         }
     }
-    Ok(())
+    if writes {
+        write(rt, SCRIPT_NAME, DAY.as_bytes())
+    } else {
+        compare(rt, SCRIPT_NAME, DAY.as_bytes())
+    }
 }
 
 fn main(rt: HostRuntime) -> anyhow::Result<()> {

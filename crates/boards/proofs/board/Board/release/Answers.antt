@@ -10,11 +10,11 @@ use Rattle.boards.proofs.board.Board.release.Goals as goal
 -- src/spending.rt
 pub returns-clause-does : goal.returns-clause-does
 returns-clause-does g c =
-    release_does c.args.self.now.ledger c.args.circuit (fields_held c.in_ok-certificate.certificate) refl c.in_ok-certificate.ensures.answer.0
+    release_does c.args.self.now.ledger c.args.circuit (fields_held c.in_ok-released.released) refl c.in_ok-released.ensures.answer.0
     (record {
       number = refl;
-      bottom = c.give_pair.ensures.given ∙ ap (λ r. given_along r (g.N.Network.meaning c.args.self.now.pile.below.below)) (routes_given c.one.result.now c.two.result.now (fields_held c.in_ok-certificate.certificate) (rows_in c.args.self.now.ledger c.args.circuit) c.one.ensures c.two.ensures (ap routes_of c.in_ok-certificate.ensures.answer.0));
+      bottom = c.give_pair.ensures.given ∙ ap (λ r. given_along r (g.N.Network.meaning c.args.self.now.pile.below.below)) (routes_given c.one.result.now c.two.result.now (fields_held c.in_ok-released.released) (rows_in c.args.self.now.ledger c.args.circuit) c.one.ensures c.two.ensures (ap routes_of c.in_ok-released.ensures.answer.0));
       closed = λ k. ap (λ x. is_closed x k) c.give_pair.ensures.closings;
       amounts = λ k. ap (λ x. amount_on x k) c.give_pair.ensures.surcharges;
-      rows = λ d. c.in_ok-certificate.ensures.answer.1 d;
+      rows = λ d. c.in_ok-released.ensures.answer.1 d;
     })

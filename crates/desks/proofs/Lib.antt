@@ -1,0 +1,2 @@
+-- Proofs of what desks keep.
+pub mod Hands

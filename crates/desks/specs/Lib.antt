@@ -1,0 +1,2 @@
+-- The definitions that the contracts of desks cite.
+pub mod Desks
