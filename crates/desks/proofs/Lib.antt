@@ -1,2 +1,3 @@
 -- Proofs of what desks keep.
 pub mod Hands
+pub mod Emptying

@@ -1,43 +1,25 @@
--- What the holds in hand are to the rows of their board.
-use Rattle.std.specs.Prelude.{◌≡◌, ℕ, zero, suc, ◌-◌, Bool, true, false, List, [], take, Some, None, Option, Ok, Err, Result, is_ok, is_some, nat_le, ◌&&◌, slice_index_or}
-use Rattle.certificates.specs.Limits.{circuit_sound}
+-- What a desk has in hand, and what its calls do.
+use Rattle.std.specs.Prelude.{◌≡◌, ℕ, Bool, true, not, ◌&&◌, cond, List, [], ◌∷◌, take, map, filter, Some, None, Option, Ok, Err, Result, is_ok, is_some, ◌==◌}
+use Rattle.std.specs.List.{range_with_len}
+use Rattle.refusals.specs.declared.Refusal.{Refusal}
+use Rattle.refusals.specs.declared.Refusal.TheVariants as listed
 use Rattle.ledger.specs.Rows.{Entry, is_held}
-use Rattle.registers.specs.Events.{Call, hold, withdraw, Event}
+use Rattle.registers.specs.Events.{Call, hold, confirm, withdraw, Event}
 use Rattle.registers.specs.States.{State}
 use Rattle.boards.specs.declared.hold.Hold.{Hold}
 use Rattle.boards.specs.declared.hold.Held.{Held}
 use Rattle.boards.specs.declared.refusing.HoldRefusal.{HoldRefusal}
 use Rattle.boards.specs.Calls.{event, Does}
+use Rattle.desks.specs.declared.ending.Ending.{Ending}
+use Rattle.desks.specs.declared.ending.Ending.TheVariants.{Confirm, Withdraw}
 
--- a hold is one of a board of this number for this circuit, whose row is held
-abbrev pub Backed : ℕ → (ℕ → Entry) → ℕ → Hold → Type 0
-Backed number rows circuit h = (h.board ≡ number) × (h.circuit ≡ circuit) × (circuit_sound circuit ≡ true) × (is_held (rows circuit) ≡ true)
+-- each hold in hand is one of a board of this number, for the circuit of its slot
+abbrev pub Matched : ℕ → (ℕ → Option Hold) → Type 0
+Matched number holds = (c : ℕ) (h : Hold) → holds c ≡ Some h → (h.board ≡ number) × (h.circuit ≡ c)
 
--- so is the hold in each slot, if there is one; the slot of circuit 1 comes first
-abbrev pub InHand : ℕ → (ℕ → Entry) → List (Option Hold) → Type 0
-InHand number rows slots = (k : ℕ) (h : Hold) → slice_index_or slots k None ≡ Some h → Backed number rows (suc k) h
-
--- the slot of a circuit is empty
-abbrev pub Empty : ℕ → List (Option Hold) → Type 0
-Empty circuit slots = slice_index_or slots (circuit - 1) None ≡ None
-
--- a hold that was taken out of the slot of a circuit, which is empty now
-abbrev pub TakenOut : ℕ → (ℕ → Entry) → ℕ → List (Option Hold) → Option Hold → Type 0
-TakenOut number rows circuit slots None = Unit {0}
-TakenOut number rows circuit slots (Some h) = Backed number rows circuit h × Empty circuit slots
-
--- whether the hold of a circuit is in hand
-abbrev pub in_hand : List (Option Hold) → ℕ → Bool
-in_hand slots circuit = nat_le 1 circuit && is_some (slice_index_or slots (circuit - 1) None)
-
--- a board of this number and with these rows refuses the holds of a board for a circuit: it is another board, or the row is not held
-abbrev pub Foreign : ℕ → (ℕ → Entry) → ℕ → ℕ → Type 0
-Foreign number rows board circuit = board ≡ number → is_held (rows circuit) ≡ true → ⊥
-
--- a call on the hold of a circuit: with such a hold in hand it is made and accepted, and with none nothing changes
-abbrev pub Ended : State → Call → Bool → State → Type 0
-Ended s call true t = Does s (event call true) t
-Ended s call false t = t ≡ s
+-- in hand are the holds of exactly the circuits whose rows are held
+abbrev pub Whole : (ℕ → Entry) → (ℕ → Option Hold) → Type 0
+Whole rows holds = (c : ℕ) → is_some (holds c) ≡ is_held (rows c)
 
 -- what the board answered: a hold of its own for the circuit, which the desk keeps
 abbrev pub as_held : ℕ → ℕ → Result (ℕ × ℕ) HoldRefusal → Result Held HoldRefusal
@@ -53,7 +35,28 @@ routes_kept (Err why) one two = ([], [])
 abbrev pub kept : ℕ → ℕ → ℕ → Result (ℕ × ℕ) HoldRefusal → List ℕ → List ℕ → Event
 kept circuit root target answer one two = record { call = hold circuit root target; accepted = is_ok answer; one = (routes_kept answer one two).0; two = (routes_kept answer one two).1 }
 
--- what so many withdrawals make of a board
-abbrev pub Withdrawn : ℕ → State → State → Type 0
-Withdrawn zero s t = t ≡ s
-Withdrawn (suc n) s t = (u : State) × (board : ℕ) × (circuit : ℕ) × Withdrawn n s u × Does u (event (withdraw board circuit) true) t
+-- a board accepts the holds of a board of some number for a circuit: it has this number, and the circuit's row is held
+abbrev pub accepts : State → ℕ → ℕ → Bool
+accepts s board circuit = board == s.number && is_held (s.rows circuit)
+
+-- what a board makes of an offered hold: where such a hold is in hand, and the other board does not accept it, it is refused with its two numbers
+abbrev pub offer_answer : State → ℕ → State → Option Refusal
+offer_answer own circuit other = cond (is_held (own.rows circuit) && not (accepts other own.number circuit)) (Some (listed.NotHeld own.number circuit)) None
+
+-- the call by which a hold is to end
+abbrev pub ending_call : Ending → ℕ → ℕ → Call
+ending_call Confirm board circuit = confirm board circuit
+ending_call Withdraw board circuit = withdraw board circuit
+
+-- the circuits whose rows are held, the lowest first
+abbrev pub held_circuits : (ℕ → Entry) → List ℕ
+held_circuits rows = filter (λ c. is_held (rows c)) (range_with_len 1 32)
+
+-- the withdrawals of some circuits of a board
+abbrev pub withdrawals : ℕ → List ℕ → List Event
+withdrawals board circuits = map (λ c. event (withdraw board c) true) circuits
+
+-- what some calls one after the other do to a board, the newest first
+abbrev pub DoesAll : State → List Event → State → Type 0
+DoesAll s [] t = t ≡ s
+DoesAll s (e ∷ es) t = (u : State) × DoesAll s es u × Does u e t

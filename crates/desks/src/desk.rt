@@ -1,18 +1,21 @@
 //! A desk: a board, with the holds in hand.
-ghost use Rattle.std.specs.Prelude.{◌≡◌, ℕ, ◌&&◌, true, [], ◌∷◌, length, IfOk, IfSome, is_ok, is_some};
+ghost use Rattle.std.specs.Prelude.{◌≡◌, ℕ, ◌&&◌, false, cond, not, [], ◌∷◌, length, IfOk, IfSome, is_ok};
 ghost use Rattle.planner_tables.specs.Room.{all_fit, long_enough};
 ghost use Rattle.layers.specs.Refusing.{surcharge_answer};
 ghost use Rattle.networks.specs.Telling.{told};
+ghost use Rattle.ledger.specs.Rows.{vacant, is_held};
 ghost use Rattle.ledger.specs.Keeping.{rows_in};
 ghost use Rattle.registers.specs.Events.{close, reopen, surcharge, confirm, withdraw, release};
 ghost use Rattle.registers.specs.States.{shown};
 ghost use Rattle.registers.specs.Histories.{Came};
 ghost use Rattle.boards.specs.Boards.{state};
-ghost use Rattle.refusals.specs.declared.Refusal.TheVariants as listed;
 ghost use Rattle.boards.specs.Calls.{event, Does, HoldAnswered, release_answer};
-ghost use Rattle.desks.specs.Desks.{Backed, InHand, Empty, TakenOut, Foreign, Ended, as_held, kept, in_hand, Withdrawn};
+ghost use Rattle.desks.specs.Slots.{hand};
+ghost use Rattle.desks.specs.Desks.{Matched, Whole, as_held, kept, accepts, offer_answer, ending_call, held_circuits, withdrawals, DoesAll};
 
-use boards::{Board, Held, Hold, HoldRefusal, ReturnedHold};
+use crate::ending::Ending;
+use crate::slots::Slots;
+use boards::{Board, Held, HoldRefusal, ReturnedHold};
 use costs::Cost;
 use layers::refusing::SurchargeRefusal;
 use ledger::LedgerRefusal;
@@ -22,40 +25,27 @@ use networks::network::Network;
 use planner_tables::Tables;
 use refusals::Refusal;
 use std::alloc::{AllocError, Global};
-use std::mem;
 
-// The number of circuits.
-const CIRCUITS: usize = 32;
-
-/// How a hold is to end.
-#[derive(Clone, Copy, PartialEq, Eq, Debug)]
-pub enum Ending {
-    Confirm,
-    Withdraw,
-}
-
-/// A board, and the holds in hand, each in the slot of its circuit. A hold cannot be dropped, and only an accepted confirmation or withdrawal ends it; so the type says that the board would accept each.
+/// A board, and the holds in hand, each in the slot of its circuit: they are those of exactly the circuits whose rows are held. A hold cannot be dropped, and only an accepted confirmation or withdrawal ends it; the board would accept each of these.
 pub struct Desk<N> {
     pub(crate) board: Board<N>,
-    pub(crate) slots: Vec<Option<Hold>>,
-    ghost room: { length slots.items ≡ 32 },
-    ghost matched: { InHand board.number (rows_in board.ledger) slots.items },
+    pub(crate) slots: Slots,
+    ghost matched: { Matched board.number (hand slots.list.items) },
+    ghost whole: { Whole (rows_in board.ledger) (hand slots.list.items) },
 }
 
 impl<N: Network> Desk<N> {
+    ghost use Rattle.desks.specs.States.{desk_state};
+
     /// A desk at a board just begun, with no hold in hand.
     pub fn begin(heap: Global, number: u32, network: N) -> Result<Desk<N>, AllocError>
     where
         N: Drop,
-        ensures { IfOk result (λ desk. Came number (N.Network.meaning network) [] (state N.Network.meaning desk.board)) }
+        ensures { IfOk result (λ desk. Came number (N.Network.meaning network) [] (desk_state N.Network.meaning desk)) }
     {
-        let mut slots = Vec::with_capacity(heap, CIRCUITS)?;
-        for _ in 0..CIRCUITS {
-            slots.push_reserved(None);
-        }
         Ok(Desk {
+            slots: Slots::empty(heap)?,
             board: Board::begin(number, network),
-            slots,
         })
     }
 
@@ -68,62 +58,34 @@ impl<N: Network> Desk<N> {
 
     /// Closes a link.
     pub fn close(&mut self, link: u16) -> Result<(), NetworkRefusal>
-        ensures answer { result ≡ told (λ _. tt) (N.Network.meaning self.old.board.pile.below.below) link }
-        ensures does { Does (state N.Network.meaning self.old.board) (event (close link) (is_ok result)) (state N.Network.meaning self.new.board) }
+        ensures answer { result ≡ told (λ _. tt) (desk_state N.Network.meaning self.old).bottom link }
+        ensures does { Does (desk_state N.Network.meaning self.old) (event (close link) (is_ok result)) (desk_state N.Network.meaning self.new) }
     {
         self.board.close(link)
     }
 
     /// Reopens a link.
     pub fn reopen(&mut self, link: u16) -> Result<(), NetworkRefusal>
-        ensures answer { result ≡ told (λ _. tt) (N.Network.meaning self.old.board.pile.below.below) link }
-        ensures does { Does (state N.Network.meaning self.old.board) (event (reopen link) (is_ok result)) (state N.Network.meaning self.new.board) }
+        ensures answer { result ≡ told (λ _. tt) (desk_state N.Network.meaning self.old).bottom link }
+        ensures does { Does (desk_state N.Network.meaning self.old) (event (reopen link) (is_ok result)) (desk_state N.Network.meaning self.new) }
     {
         self.board.reopen(link)
     }
 
     /// Sets the amount on a link.
     pub fn surcharge(&mut self, link: u16, amount: u32) -> Result<(), SurchargeRefusal>
-        ensures answer { result ≡ surcharge_answer (N.Network.meaning self.old.board.pile.below.below) link amount }
-        ensures does { Does (state N.Network.meaning self.old.board) (event (surcharge link amount) (is_ok result)) (state N.Network.meaning self.new.board) }
+        ensures answer { result ≡ surcharge_answer (desk_state N.Network.meaning self.old).bottom link amount }
+        ensures does { Does (desk_state N.Network.meaning self.old) (event (surcharge link amount) (is_ok result)) (desk_state N.Network.meaning self.new) }
     {
         self.board.surcharge(link, amount)
     }
 
     /// Releases a confirmed circuit.
     pub fn release(&mut self, circuit: u8) -> Result<(), LedgerRefusal>
-        ensures answer { result ≡ release_answer (rows_in self.old.board.ledger) circuit }
-        ensures does { Does (state N.Network.meaning self.old.board) (event (release circuit) (is_ok result)) (state N.Network.meaning self.new.board) }
+        ensures answer { result ≡ release_answer (desk_state N.Network.meaning self.old).rows circuit }
+        ensures does { Does (desk_state N.Network.meaning self.old) (event (release circuit) (is_ok result)) (desk_state N.Network.meaning self.new) }
     {
         self.board.release(circuit)
-    }
-
-    // Puts a hold into the slot of its circuit.
-    fn put(&mut self, circuit: u8, hold: Hold)
-        requires backed { Backed self.old.board.number (rows_in self.old.board.ledger) circuit hold }
-        requires empty { Empty circuit self.old.slots.items }
-        ensures board { self.new.board ≡ self.old.board }
-    {
-        let slot = &mut self.slots[usize::from(circuit) - 1];
-        match mem::replace(slot, Some(hold)) {
-            None => {}
-            Some(_before) => unreachable!(),
-        }
-    }
-
-    // Takes the hold out of the slot of a circuit.
-    fn take(&mut self, circuit: u8) -> Option<Hold>
-        ensures board { self.new.board ≡ self.old.board }
-        ensures hand { is_some result ≡ in_hand self.old.slots.items circuit }
-        ensures taken { TakenOut self.new.board.number (rows_in self.new.board.ledger) circuit self.new.slots.items result }
-    {
-        let place = usize::from(circuit).checked_sub(1)?;
-        if place < self.slots.len() {
-            let slot = &mut self.slots[place];
-            mem::replace(slot, None)
-        } else {
-            None
-        }
     }
 
     /// Holds a circuit, keeps the hold in hand, and answers how many links each of the two routes has.
@@ -137,23 +99,23 @@ impl<N: Network> Desk<N> {
         one: &mut [u16],
         two: &mut [u16],
     ) -> Result<(u16, u16), HoldRefusal>
-        ensures answer { HoldAnswered C.Cost.ops (state N.Network.meaning self.old.board) circuit root target (long_enough (shown (state N.Network.meaning self.old.board)).sites M.Marks.rooms tables.entry && all_fit (shown (state N.Network.meaning self.old.board)).sites (length one.old ∷ length two.old ∷ [])) (as_held self.old.board.number circuit result) one.old two.old one.new two.new }
-        ensures does { Does (state N.Network.meaning self.old.board) (kept circuit root target result one.new two.new) (state N.Network.meaning self.new.board) }
+        ensures answer { HoldAnswered C.Cost.ops (desk_state N.Network.meaning self.old) circuit root target (long_enough (shown (desk_state N.Network.meaning self.old)).sites M.Marks.rooms tables.entry && all_fit (shown (desk_state N.Network.meaning self.old)).sites (length one.old ∷ length two.old ∷ [])) (as_held (desk_state N.Network.meaning self.old).number circuit result) one.old two.old one.new two.new }
+        ensures does { Does (desk_state N.Network.meaning self.old) (kept circuit root target result one.new two.new) (desk_state N.Network.meaning self.new) }
     {
         let held = self
             .board
             .hold(heap, circuit, root, target, tables, one, two)?;
         let Held { hold, one, two } = held;
-        self.put(circuit, hold);
+        self.slots.put(circuit, hold);
         Ok((one, two))
     }
 
     /// Confirms a circuit whose hold is in hand, and answers whether it is.
     pub fn confirm(&mut self, circuit: u8) -> bool
-        ensures hand { result ≡ in_hand self.old.slots.items circuit }
-        ensures ended { Ended (state N.Network.meaning self.old.board) (confirm self.old.board.number circuit) result (state N.Network.meaning self.new.board) }
+        ensures answer { result ≡ is_held ((desk_state N.Network.meaning self.old).rows circuit) }
+        ensures does { Does (desk_state N.Network.meaning self.old) (event (confirm (desk_state N.Network.meaning self.old).number circuit) result) (desk_state N.Network.meaning self.new) }
     {
-        let Some(hold) = self.take(circuit) else {
+        let Some(hold) = self.slots.take(circuit) else {
             return false;
         };
         match self.board.confirm(hold) {
@@ -164,10 +126,10 @@ impl<N: Network> Desk<N> {
 
     /// Withdraws a circuit whose hold is in hand, and answers whether it is.
     pub fn withdraw(&mut self, circuit: u8) -> bool
-        ensures hand { result ≡ in_hand self.old.slots.items circuit }
-        ensures ended { Ended (state N.Network.meaning self.old.board) (withdraw self.old.board.number circuit) result (state N.Network.meaning self.new.board) }
+        ensures answer { result ≡ is_held ((desk_state N.Network.meaning self.old).rows circuit) }
+        ensures does { Does (desk_state N.Network.meaning self.old) (event (withdraw (desk_state N.Network.meaning self.old).number circuit) result) (desk_state N.Network.meaning self.new) }
     {
-        let Some(hold) = self.take(circuit) else {
+        let Some(hold) = self.slots.take(circuit) else {
             return false;
         };
         match self.board.withdraw(hold) {
@@ -176,34 +138,35 @@ impl<N: Network> Desk<N> {
         }
     }
 
-    // Whether it is known that the board refuses the holds that a board of this number gives for a circuit: it has another number, or the circuit's row is not held.
-    fn refuses(&self, number: u32, circuit: u8) -> bool
-        ensures { result ≡ true → Foreign self.now.board.number (rows_in self.now.board.ledger) number circuit }
+    // Whether the board accepts the holds that a board of this number gives for a circuit.
+    fn accepts(&self, number: u32, circuit: u8) -> bool
+        ensures { result ≡ accepts (desk_state N.Network.meaning self.now) number circuit }
     {
         if number != self.board.number() {
-            return true;
+            return false;
         }
         match self.board.row(circuit) {
-            Ok(row) => !row.is_held(),
+            Ok(row) => row.is_held(),
             Err(_refusal) => false,
         }
     }
 
-    /// Offers the hold of a circuit to the board of another desk, to confirm or to withdraw it, and answers how it is refused. None if no such hold is in hand, or if that board would accept it.
+    /// Offers the hold of a circuit to the board of another desk, to confirm or to withdraw it, and answers how it is refused. None if no such hold is in hand, or if that board would accept it: then it is not offered. The hold stays in hand.
     pub fn offer<O: Network>(
         &mut self,
         circuit: u8,
         ending: Ending,
         other: &mut Desk<O>,
     ) -> Option<Refusal>
+        ensures answer { result ≡ offer_answer (desk_state N.Network.meaning self.old) circuit (desk_state O.Network.meaning other.old) }
         ensures own { self.new.board ≡ self.old.board }
-        ensures other { state O.Network.meaning other.new.board ≡ state O.Network.meaning other.old.board }
-        ensures refusal { IfSome result (λ refusal. refusal ≡ listed.NotHeld self.old.board.number circuit) }
+        ensures other { other.new.board ≡ other.old.board }
+        ensures does { IfSome result (λ _. Does (desk_state O.Network.meaning other.old) (event (ending_call ending (desk_state N.Network.meaning self.old).number circuit) false) (desk_state O.Network.meaning other.new)) }
     {
-        if !other.refuses(self.board.number(), circuit) {
+        if other.accepts(self.board.number(), circuit) {
             return None;
         }
-        let hold = self.take(circuit)?;
+        let hold = self.slots.take(circuit)?;
         let answer = match ending {
             Ending::Confirm => other.board.confirm(hold),
             Ending::Withdraw => other.board.withdraw(hold),
@@ -213,21 +176,20 @@ impl<N: Network> Desk<N> {
             Err(back) => {
                 let refusal = back.refusal();
                 let ReturnedHold { hold } = back;
-                self.put(circuit, hold);
+                self.slots.put(circuit, hold);
                 Some(refusal)
             }
         }
     }
 
-    /// Ends the desk: withdraws every hold in hand, and answers the board.
+    /// Ends the desk: withdraws every hold in hand, the highest circuit first, and answers the board.
     pub fn end(self) -> Board<N>
-        ensures { (n : ℕ) × Withdrawn n (state N.Network.meaning self.board) (state N.Network.meaning result) }
+        ensures does { DoesAll (desk_state N.Network.meaning self) (withdrawals (desk_state N.Network.meaning self).number (held_circuits (desk_state N.Network.meaning self).rows)) (state N.Network.meaning result) }
+        ensures rows { (c : ℕ) → (state N.Network.meaning result).rows c ≡ cond (is_held ((desk_state N.Network.meaning self).rows c)) vacant ((desk_state N.Network.meaning self).rows c) }
     {
-        let Desk {
-            mut board,
-            mut slots,
-        } = self;
-        while let Some(slot) = slots.pop() {
+        let Desk { mut board, slots } = self;
+        let Slots { mut list } = slots;
+        while let Some(slot) = list.pop() {
             if let Some(hold) = slot {
                 match board.withdraw(hold) {
                     Ok(()) => {}
@@ -235,7 +197,7 @@ impl<N: Network> Desk<N> {
                 }
             }
         }
-        slots.destroy_empty();
+        list.destroy_empty();
         board
     }
 }

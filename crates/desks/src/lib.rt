@@ -2,5 +2,8 @@
 #![tactic(auto)]
 
 mod desk;
+mod ending;
+mod slots;
 
-pub use desk::{Desk, Ending};
+pub use desk::Desk;
+pub use ending::Ending;

@@ -1,12 +1,12 @@
 -- No hold is in hand.
-use Rattle.std.proofs.Common.{rules}
-use Rattle.ledger.specs.Keeping.{rows_in}
-use Rattle.desks.proofs.Hands.{none_in_hand}
+use Rattle.std.proofs.Common.{ap}
+use Rattle.boards.specs.Boards.{state}
+use Rattle.desks.specs.Slots.{hand}
+use Rattle.desks.proofs.Hands.{none_at}
 use Rattle.desks.proofs.desk.Desk.begin.Goals as goal
 
--- src/desk.rt
 pub invariant_of-result : goal.invariant_of-result
-invariant_of-result g c = record {
-  room = search rules;
-  matched = none_in_hand c.begin.result.number (rows_in c.begin.result.ledger) c.loop.slots.items c.loop.counter c.loop.invariant.0;
-}
+invariant_of-result g c =
+    let s = state g.N.Network.meaning c.begin.result in
+    let none = none_at s (hand c.in_ok-empty.field-0.list.items) c.in_ok-empty.ensures (λ d. ap (λ x. x.rows d) c.begin.ensures.begun) in
+    record { matched = none.0; whole = none.1 }

@@ -1,11 +1,11 @@
 -- No row changes.
 use Rattle.boards.specs.Boards.{state}
+use Rattle.desks.specs.Slots.{hand}
 use Rattle.desks.proofs.Hands.{left}
 use Rattle.desks.proofs.desk.Desk.reopen.Goals as goal
 
--- src/desk.rt
 pub invariant_of-self : goal.invariant_of-self
-invariant_of-self g c = record {
-  room = c.args.self.now.room;
-  matched = left (state g.N.Network.meaning c.args.self.now.board) (state g.N.Network.meaning c.reopen.new.self) _ c.args.self.now.slots.items c.reopen.ensures.does.steps c.args.self.now.matched (λ is. c.args.self.now.matched);
-}
+invariant_of-self g c =
+    let d = c.args.self.now in
+    let after = left (state g.N.Network.meaning d.board) (state g.N.Network.meaning c.reopen.new.self) _ (hand d.slots.list.items) c.reopen.ensures.does.steps (d.matched, d.whole) (λ is. (d.matched, d.whole)) in
+    record { matched = after.0; whole = after.1 }
