@@ -58,7 +58,7 @@ channels_right number given events s is link =
 pub certificate_right : (number : ℕ) (given : Net) (events : List Event) (s : State) → Agrees number given events s → (circuit : ℕ) (answer : Result ℕ IssueRefusal) (before after : List ℕ) → Issued s.rows circuit answer before after → TrueCertificate given events circuit answer before after
 certificate_right number given events s is circuit (Ok count) before after (f, row, own, wrote) =
     let entry : (register given events).circuits circuit ≡ confirmed f = sym (ap (λ t. t.rows circuit) is) ∙ row in
-    (f, wrote.1, subst (EntryHeldSo given events circuit) entry (circuits_are_held_so given events circuit))
+    (f, wrote.1, entry, subst (EntryHeldSo given events circuit) entry (circuits_are_held_so given events circuit))
 certificate_right number given events s is circuit (Err (not_issued.Ledger why)) before after issued = ap (λ t. release_answer t.rows circuit) (sym is) ∙ issued.0
 certificate_right number given events s is circuit (Err not_issued.BufferTooShort) before after ((f, row, short), same) = (f, sym (ap (λ t. t.rows circuit) is) ∙ row, short)
 

@@ -64,9 +64,13 @@ abbrev pub TrueChannels : Net → List Event → ℕ → Result (ℕ × ℕ) Net
 TrueChannels given events link (Ok both) = both.1 ≡ (link_at given link).taken + circuits_over (register given events).circuits link
 TrueChannels given events link (Err why) = nat_lt link (length given.links) ≡ false
 
--- a certificate written: it says what its circuit's hold was asked for and answered, with the sums of the links as they stood then; refused, the register's circuit is not confirmed, or the buffer is too short for what it says
+-- a certificate written: the register's circuit is confirmed, and it says what its circuit's hold was asked for and answered, with the sums of the links as they stood then; refused, the register's circuit is not confirmed, or the buffer is too short for what it says
 abbrev pub TrueCertificate : Net → List Event → ℕ → Result ℕ IssueRefusal → List ℕ → List ℕ → Type 0
-TrueCertificate given events circuit (Ok count) before after = (f : Fields) × (take count after ≡ certificate_bytes f) × HeldSo given events circuit f
+TrueCertificate given events circuit (Ok count) before after =
+    (f : Fields)
+    × (take count after ≡ certificate_bytes f)
+    × ((register given events).circuits circuit ≡ confirmed f)
+    × HeldSo given events circuit f
 TrueCertificate given events circuit (Err (not_issued.Ledger why)) before after = release_answer (register given events).circuits circuit ≡ Err why
 TrueCertificate given events circuit (Err not_issued.BufferTooShort) before after = (f : Fields) × ((register given events).circuits circuit ≡ confirmed f) × (length before < length (certificate_bytes f))
 

@@ -1,4 +1,4 @@
-use Rattle.std.proofs.Common.{◌≡◌, ◌&&◌, [], ◌∷◌, length, sym, ap, ◌∙◌, subst}
+use Rattle.std.proofs.Common.{◌≡◌, ◌&&◌, [], ◌∷◌, length, nat_lt, sym, ap, ◌∙◌, subst}
 use Rattle.planner_tables.specs.Room.{all_fit, long_enough}
 use Rattle.registers.specs.States.{shown}
 use Rattle.registers.specs.Events.{Event, close}
@@ -10,9 +10,12 @@ use Rattle.boards.specs.Calls.{event}
 use Rattle.boards.specs.Orders.{TrueQuote}
 use Rattle.boards.proofs.composing.quote_without.Goals as goal
 
--- src/composing.rt
-pub returns : goal.returns
-returns g c =
+pub returns-clause-closed : goal.returns-clause-closed
+returns-clause-closed g c =
+    c.is_ok-closed.ensures.value ∙ (c.close.ensures.does.steps.allowed ∙ ap (λ t. nat_lt c.args.link (length t.bottom.links)) c.begin-board.ensures.begun)
+
+pub returns-clause-quote : goal.returns-clause-quote
+returns-clause-quote g c =
     let given = g.N.Network.meaning c.args.network in
     let now = state g.N.Network.meaning c.close.new.self in
     let closing : Event = event (close c.args.link) c.is_ok-closed.result in
