@@ -70,7 +70,7 @@ fn tell_quote<N: Network, C: Cost + Copy, M: Marks>(
 {
     let _count = both_runs(network, root, first, second, piece, part, queue);
     let at = target as usize;
-    // A number for none: the tables are plain u16, since a C program may lend them.
+    // A number for none: the tables are plain u16.
     if first.links[at] == NONE {
         return Err(PlannerRefusal::NoRoute);
     }

@@ -63,7 +63,7 @@ pub fn first_run_without<N: Network, C: Cost + Copy>(
 }
 
 /// The second run over what the first run left: fills the tables and tells how many sites were struck.
-// The marks are two tables side by side, lent as plain slices: a C program may lend them.
+// The marks are two tables side by side, lent as plain slices.
 pub fn second_run<N: Network, C: Cost + Copy>(
     first: FirstRun<N, C>,
     tables: &mut RunTables<C>,
