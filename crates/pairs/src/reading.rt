@@ -11,7 +11,7 @@ use networks::network::Network;
 
 /// Wipes all marks, and then marks the target, its turn, the turn of that and so on, without the root.
 // Here and below a call that changes marks says that their room stays: of marks of any kind no type can say it.
-pub fn mark_turns<C: Cost, N: Network, M: Marks>(
+fn mark_turns<C: Cost, N: Network, M: Marks>(
     network: &N,
     turns: &[u16],
     marks: &mut M,
