@@ -18,7 +18,9 @@ pub trait Marks {
 
     /// Marks a site. Past the room it does nothing.
     fn mark(&mut self, site: u16)
-        ensures set { (w : ℕ) → marked self.new w ≡ (if nat_lt site (rooms self.old) then with site (marked self.old) w else marked self.old w) }
+        ensures set { (w : ℕ) → marked self.new w ≡
+            (if nat_lt site (rooms self.old) then with site (marked self.old) w
+            else marked self.old w) }
         ensures room { rooms self.new ≡ rooms self.old };
 
     /// Wipes the mark of a site.
