@@ -12,7 +12,7 @@ use runs::RunTables;
 use std::marker::PhantomData;
 
 /// The labels that both runs from a root left over a network: by site the distance, the tree link and the parent of the first run, and the label, the entry link and the turn of the second.
-// Tables side by side: they are those of `RunTables`, plain slices, since a C program may lend them.
+// Tables side by side: they are those of `RunTables`, plain slices.
 #[derive(Drop)]
 pub struct Labels<'a, N: Network, C: Cost> {
     pub found: Tables<'a, N, C>,

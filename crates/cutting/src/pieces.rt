@@ -21,7 +21,7 @@ pub fn last_piece_link<N: Network, C: Cost>(tree: &Tree<N, C>, entry: &[u16], si
     'climb: loop {
         let link = tree.links[top as usize];
         let above = start_of(tree.network, link);
-        // A number for none: the tables are plain u16, since a C program may lend them.
+        // A number for none: the tables are plain u16.
         if entry[above as usize] != NONE {
             break 'climb link;
         }

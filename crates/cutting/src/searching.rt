@@ -28,7 +28,7 @@ fn is_reached_without<N: Network, C: Cost + Copy>(
     ensures same { SameTables tables.old tables.new }
 {
     let _count = first_run_without(tree.network, link, tree.root, tables, queue);
-    // A number for none: the tables are plain u16, since a C program may lend them.
+    // A number for none: the tables are plain u16.
     tables.links[target as usize] != NONE
 }
 

@@ -11,12 +11,13 @@ Says k v root target no_route = NoRoute v root target
 Says k v root target (one_link e) = ((es : List ℕ) × Route v root target es) × FirstShared v root target e
 Says k v root target (pair one two total) = LeastPair k v root target one two × (total ≡ pair_cost k v one two)
 
--- neither route of a pair visits a site twice, and each has at least one link and fewer than there are sites
+-- a route with at least one link and fewer than there are sites, on which no site is visited twice
 pub record Short {C : Type 0} (v : View C) (root : ℕ) (es : List ℕ) : Type 0 where
   pub simple : Simple v root es
   pub some : 1 ≤ length es
   pub few : length es < v.sites
 
+-- neither route of a pair visits a site twice, and each has at least one link and fewer than there are sites
 abbrev pub NoSiteTwice : {C : Type 0} → View C → ℕ → Answer C → Type 0
 NoSiteTwice v root no_route = Unit {0}
 NoSiteTwice v root (one_link e) = Unit {0}

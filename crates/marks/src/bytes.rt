@@ -1,5 +1,5 @@
 //! Marks in a lent table with a byte for each site: zero where the site is not marked.
-ghost use Rattle.std.specs.Prelude.{◌≡◌, length};
+ghost use Rattle.std.specs.Prelude.{◌≡◌, length, slice_set};
 ghost use Rattle.marks.specs.Sets.{in_bytes};
 
 use crate::kind::Marks;
@@ -17,6 +17,17 @@ impl<'a> Bytes<'a> {
     {
         Bytes { bytes }
     }
+
+    /// Writes the byte of a site, where the table has one.
+    fn write(&mut self, site: u16, byte: u8)
+        ensures { self.new.bytes.now ≡ slice_set self.old.bytes.now site byte }
+    {
+        // By its place: what a write through `get_mut` leaves in a lent table gets no proof.
+        let at = site as usize;
+        if at < self.room() {
+            self.bytes[at] = byte;
+        }
+    }
 }
 
 impl<'a> Marks for Bytes<'a> {
@@ -33,15 +44,11 @@ impl<'a> Marks for Bytes<'a> {
     }
 
     fn mark(&mut self, site: u16) {
-        self.bytes[site as usize] = 1;
+        self.write(site, 1);
     }
 
     fn wipe(&mut self, site: u16) {
-        // By its place: what a write through `get_mut` leaves in a lent table gets no proof.
-        let at = site as usize;
-        if at < self.room() {
-            self.bytes[at] = 0;
-        }
+        self.write(site, 0);
     }
 
     fn clear(&mut self) {

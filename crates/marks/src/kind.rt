@@ -1,5 +1,5 @@
 //! What a set of marked sites is: its calls and their meaning.
-ghost use Rattle.std.specs.Prelude.{◌≡◌, ℕ, ◌<◌, Bool, false};
+ghost use Rattle.std.specs.Prelude.{◌≡◌, ℕ, Bool, false, if◌then◌else◌, nat_lt};
 ghost use Rattle.marks.specs.Sets.{with, less};
 
 /// A set of marked sites, with room for the sites below a number.
@@ -16,10 +16,11 @@ pub trait Marks {
     fn is_marked(&self, site: u16) -> bool
         ensures { result ≡ marked self.now site };
 
-    /// Marks a site.
+    /// Marks a site. Past the room it does nothing.
     fn mark(&mut self, site: u16)
-        requires { site < rooms self.old }
-        ensures set { (w : ℕ) → marked self.new w ≡ with site (marked self.old) w }
+        ensures set { (w : ℕ) → marked self.new w ≡
+            (if nat_lt site (rooms self.old) then with site (marked self.old) w
+            else marked self.old w) }
         ensures room { rooms self.new ≡ rooms self.old };
 
     /// Wipes the mark of a site.

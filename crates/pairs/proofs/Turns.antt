@@ -1,6 +1,6 @@
 -- The turns of a site: the marks of a target, one turn after the other.
-use Rattle.std.proofs.Common.{◌≡◌, ℕ, Bool, true, false, cond, ◌||◌, eqb, List, [], ◌∷◌, ◌++◌, Option, sym, refl, ap, ◌∙◌, subst, inl, inr}
-use Rattle.std.proofs.lemmas.Bool.{eq-eqb, ne_eqb, both_ways, cond-true, cond-false, or_left}
+use Rattle.std.proofs.Common.{◌≡◌, ℕ, ◌<◌, Bool, true, false, cond, ◌||◌, eqb, ltb, List, [], ◌∷◌, ◌++◌, Option, sym, refl, ap, ◌∙◌, subst, inl, inr}
+use Rattle.std.proofs.lemmas.Bool.{eq-eqb, ne_eqb, lt-ltb, both_ways, cond-true, cond-false, or_left}
 use Rattle.costs.specs.Costs.{Ops}
 use Rattle.marks.specs.Sets.{with}
 use Rattle.least_pairs.specs.Runs.{Label, Job, State, has}
@@ -68,6 +68,10 @@ module _ {C : Type 0} {k : Ops C} {j : Job C} {root : ℕ} {s : State C} (run : 
 -- the marks set so far and those of a site are together the marks of a target
 abbrev pub Marking : {C : Type 0} → State C → ℕ → ℕ → (ℕ → Bool) → ℕ → Type 0
 Marking s root target set site = (x : ℕ) → (set x || has x (marks s.labels root s.order site)) ≡ has x (marks s.labels root s.order target)
+
+-- a mark within the room is one more in the set
+pub within_room : (rooms site : ℕ) (set after : ℕ → Bool) → site < rooms → ((x : ℕ) → after x ≡ cond (ltb site rooms) (with site set x) (set x)) → (x : ℕ) → after x ≡ with site set x
+within_room rooms site set after low is x = is x ∙ cond-true (ltb site rooms) (with site set x) (set x) (lt-ltb site rooms low)
 
 -- one more in a set, and one fewer to come
 moved : (a b h : Bool) → (cond b true a || h) ≡ (a || (b || h))

@@ -6,6 +6,6 @@ mod routes;
 mod tree;
 mod walking;
 
-pub use reading::{Tables, mark_turns};
+pub use reading::Tables;
 pub use tree::Tree;
 pub use walking::start_of;

@@ -11,7 +11,7 @@ use networks::network::Network;
 
 /// Wipes all marks, and then marks the target, its turn, the turn of that and so on, without the root.
 // Here and below a call that changes marks says that their room stays: of marks of any kind no type can say it.
-pub fn mark_turns<C: Cost, N: Network, M: Marks>(
+fn mark_turns<C: Cost, N: Network, M: Marks>(
     network: &N,
     turns: &[u16],
     marks: &mut M,
@@ -35,7 +35,7 @@ pub fn mark_turns<C: Cost, N: Network, M: Marks>(
 }
 
 /// What both runs left that a pair is read from: the tree links of the first run, and by site the entry link and the turn of the second.
-// Tables side by side: they are those of `RunTables`, plain slices, since a C program may lend them.
+// Tables side by side: they are those of `RunTables`, plain slices.
 #[derive(Drop)]
 pub struct Tables<'a, N: Network, C: Cost> {
     pub tree: Tree<'a, N, C>,

@@ -24,7 +24,7 @@ pub struct Tree<'a, N: Network, C: Cost> {
 
 impl<'a, N: Network, C: Cost> Tree<'a, N, C> {
     /// Walks back from a target to the root: from a marked site over its entry link, wiping the mark, else over its tree link. Writes the links passed, from the root on, and answers how many they are.
-    pub fn walk_back<M: Marks>(
+    pub(crate) fn walk_back<M: Marks>(
         &self,
         entry: &[u16],
         marks: &mut M,

@@ -26,7 +26,7 @@ fn routes_fit(sites: u16, one: &[u16], two: &[u16]) -> bool
 }
 
 /// The least pair of routes from a root to a target that share no link: writes both into the route tables, each from the root on. All tables need as many entries as there are sites.
-// Two route tables of their own, here and in what this calls: a caller lends them apart, as a C program will.
+// Two route tables of their own, here and in what this calls: a caller lends them apart.
 pub fn quote<N: Network, C: Cost + Copy, M: Marks>(
     network: &N,
     root: u16,

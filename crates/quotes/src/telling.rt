@@ -68,9 +68,9 @@ fn tell_quote<N: Network, C: Cost + Copy, M: Marks>(
     requires routes { ((N.Network.meaning network.now).sites ≤ length one.old) × ((N.Network.meaning network.now).sites ≤ length two.old) }
     ensures { Quoted C.Cost.ops (N.Network.meaning network.now) root target true result one.old two.old one.new two.new }
 {
-    let _count = both_runs(network, root, first, second, piece, part, queue);
+    both_runs(network, root, first, second, piece, part, queue);
     let at = target as usize;
-    // A number for none: the tables are plain u16, since a C program may lend them.
+    // A number for none: the tables are plain u16.
     if first.links[at] == NONE {
         return Err(PlannerRefusal::NoRoute);
     }

@@ -37,7 +37,7 @@ fn left_in<'a, 't, N: Network, C: Cost>(
     }
 }
 
-/// Both runs from a root: fills the tables of the first and of the second, and tells how many sites the first reached.
+/// Both runs from a root: fills the tables of the first and of the second.
 // The tables of each run, the marks and the queue in parameters of their own, for the same reason.
 pub fn both_runs<N: Network, C: Cost + Copy>(
     network: &N,
@@ -47,16 +47,15 @@ pub fn both_runs<N: Network, C: Cost + Copy>(
     piece: &mut [u16],
     part: &mut [u16],
     queue: &mut [Entry<C>],
-) -> u16
+)
     requires root { root < (N.Network.meaning network.now).sites }
     requires room { ((N.Network.meaning network.now).sites ≤ first.old.sites) × (((N.Network.meaning network.now).sites ≤ second.old.sites) × ((N.Network.meaning network.now).sites ≤ length queue.old)) }
     requires marks { ((N.Network.meaning network.now).sites ≤ length piece.old) × ((N.Network.meaning network.now).sites ≤ length part.old) }
     ensures same { SameTables first.old first.new × SameTables second.old second.new }
-    ensures first { Left C.Cost.ops (N.Network.meaning network.now).sites (first_of C.Cost.ops (N.Network.meaning network.now) root) first.new.costs.now first.new.links.now first.new.turns.now first.new.order.now result }
+    ensures first { (m : ℕ) × Left C.Cost.ops (N.Network.meaning network.now).sites (first_of C.Cost.ops (N.Network.meaning network.now) root) first.new.costs.now first.new.links.now first.new.turns.now first.new.order.now m }
     ensures second { (m : ℕ) × Left C.Cost.ops (N.Network.meaning network.now).sites (second_of C.Cost.ops (N.Network.meaning network.now) root) second.new.costs.now second.new.links.now second.new.turns.now second.new.order.now m }
 {
     let count = first_run(network, root, first, queue);
     let left = left_in(network, root, first, count);
     let _struck = second_run(left, second, piece, part, queue);
-    count
 }

@@ -5,4 +5,4 @@ mod both;
 mod running;
 
 pub use both::both_runs;
-pub use running::{first_run, first_run_without, second_run};
+pub use running::first_run_without;

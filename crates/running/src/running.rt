@@ -32,7 +32,7 @@ fn first_run_but<N: Network, C: Cost + Copy>(
 
 /// The first run from a root: fills the tables and tells how many sites were reached.
 // This call and the next are one text, `first_run_but`; each has a contract of its own.
-pub fn first_run<N: Network, C: Cost + Copy>(
+pub(crate) fn first_run<N: Network, C: Cost + Copy>(
     network: &N,
     root: u16,
     tables: &mut RunTables<C>,
@@ -63,8 +63,8 @@ pub fn first_run_without<N: Network, C: Cost + Copy>(
 }
 
 /// The second run over what the first run left: fills the tables and tells how many sites were struck.
-// The marks are two tables side by side, lent as plain slices: a C program may lend them.
-pub fn second_run<N: Network, C: Cost + Copy>(
+// The marks are two tables side by side, lent as plain slices.
+pub(crate) fn second_run<N: Network, C: Cost + Copy>(
     first: FirstRun<N, C>,
     tables: &mut RunTables<C>,
     piece: &mut [u16],

@@ -6,11 +6,11 @@ ghost use Rattle.runs.specs.Turns.{costed};
 
 use costs::Cost;
 
-/// The entry that stands for none: the tables are plain u16, since a C program may lend them.
+/// The entry that stands for none: the tables are plain u16.
 pub const NONE: u16 = 65535;
 
 /// The lent tables of a run: by site the cost, the link and the turn of its label, and the settled sites in their order. Each has room for so many sites.
-// Tables side by side, lent as plain slices: a C program may lend them.
+// Tables side by side, lent as plain slices.
 #[derive(Drop)]
 pub struct RunTables<'a, C> {
     pub sites: u16,

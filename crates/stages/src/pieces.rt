@@ -1,4 +1,5 @@
-//! The marks of pieces: each site of a piece is marked by the piece's top. They are plain u16, NONE where there is no top, since a C program may lend the tables of marks.
+//! The marks of pieces: each site of a piece is marked by the piece's top.
+//! They are plain u16, NONE where there is no top.
 ghost use Rattle.std.specs.Prelude.{◌≡◌, ℕ, ◌<◌, ◌≤◌, reverse, length, if◌then◌else◌, nat_eq, slice_index};
 ghost use Rattle.stages.specs.Marks.{together, new_mark, renewed};
 

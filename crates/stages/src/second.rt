@@ -13,7 +13,7 @@ use networks::network::Network;
 use runs::Stage;
 
 /// A network with what the first run from a root left: distances, tree links and parents by site, and the sites reached in the order they were settled.
-// Tables side by side: they are those of `RunTables`, plain slices, since a C program may lend them.
+// Tables side by side: they are those of `RunTables`, plain slices.
 #[derive(Drop)]
 pub struct FirstRun<'a, N: Network, C: Cost> {
     pub network: &'a N,

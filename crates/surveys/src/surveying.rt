@@ -33,7 +33,7 @@ fn tell_survey<N: Network, C: Cost + Copy>(
     requires survey { (N.Network.meaning network.now).sites ≤ length survey.old }
     ensures { Surveyed C.Cost.ops (N.Network.meaning network.now) root true (Ok result) survey.old survey.new }
 {
-    let _count = both_runs(network, root, first, second, piece, part, queue);
+    both_runs(network, root, first, second, piece, part, queue);
     let labels = Labels::new(network, root, first, second);
     tell_sites(&labels, survey)
 }

@@ -20,7 +20,7 @@ fn tell_site<N: Network, C: Cost + Copy>(labels: &Labels<N, C>, site: u16) -> Ou
     if site == tree.root {
         return Outcome::Root;
     }
-    // A number for none: the tables are plain u16, since a C program may lend them.
+    // A number for none: the tables are plain u16.
     if tree.links[at] == NONE {
         return Outcome::NoRoute;
     }

@@ -18,9 +18,9 @@ returns-then-first-at g c =
     let root = c.args.root in
     let target = c.args.target in
     let apart = two_apart n.sites root target c.requires.sites in
-    let runs = c.both_runs-count in
+    let runs = c.both_runs in
     let first = runs.new.first in
-    let one = read_at k n.sites first.costs.now first.links.now first.turns.now (first_of k n root).labels (omega arith) runs.ensures.first.labels target apart.1 in
+    let one = read_at k n.sites first.costs.now first.links.now first.turns.now (first_of k n root).labels (omega arith) runs.ensures.first.1.labels target apart.1 in
     let is : get_or first.links.now target 0 ≡ 65535 = omega arith in (
       record { sites_stand = c.requires.sites; room_is = refl },
       none_answered g.met.C.Cost.lawful n (g.met.N.Network.sound network) root target apart.0 apart.1 apart.2 (one.none is),
@@ -30,9 +30,9 @@ returns-then-first-at g c =
 pub invariant_of-tree-clause-told : goal.invariant_of-tree-clause-told
 invariant_of-tree-clause-told g c =
     let n = g.N.Network.meaning c.args.network.now in
-    let runs = c.both_runs-count in
+    let runs = c.both_runs in
     let first = runs.new.first in
-    tells_links g.C.Cost.ops n.sites first.costs.now first.links.now first.turns.now (first_of g.C.Cost.ops n c.args.root).labels runs.ensures.first.labels
+    tells_links g.C.Cost.ops n.sites first.costs.now first.links.now first.turns.now (first_of g.C.Cost.ops n c.args.root).labels runs.ensures.first.1.labels
 
 pub cutting_link-cut-requires-clause-reached : goal.cutting_link-cut-requires-clause-reached
 cutting_link-cut-requires-clause-reached g c =
@@ -40,9 +40,9 @@ cutting_link-cut-requires-clause-reached g c =
     let n = g.N.Network.meaning c.args.network.now in
     let target = c.args.target in
     let apart = two_apart n.sites c.args.root target c.requires.sites in
-    let runs = c.both_runs-count in
+    let runs = c.both_runs in
     let first = runs.new.first in
-    (read_at k n.sites first.costs.now first.links.now first.turns.now (first_of k n c.args.root).labels (omega arith) runs.ensures.first.labels target apart.1).some (λ e. omega (arith, e))
+    (read_at k n.sites first.costs.now first.links.now first.turns.now (first_of k n c.args.root).labels (omega arith) runs.ensures.first.1.labels target apart.1).some (λ e. omega (arith, e))
 
 pub unwrap-requires : goal.unwrap-requires
 unwrap-requires g c =
@@ -52,10 +52,10 @@ unwrap-requires g c =
     let root = c.args.root in
     let target = c.args.target in
     let apart = two_apart n.sites root target c.requires.sites in
-    let runs = c.both_runs-count in
+    let runs = c.both_runs in
     let first = runs.new.first in
     let second = runs.new.second in
-    let one = read_at k n.sites first.costs.now first.links.now first.turns.now (first_of k n root).labels (omega arith) runs.ensures.first.labels target apart.1 in
+    let one = read_at k n.sites first.costs.now first.links.now first.turns.now (first_of k n root).labels (omega arith) runs.ensures.first.1.labels target apart.1 in
     let two = read_at k n.sites second.costs.now second.links.now second.turns.now (second_of k n root).labels (omega arith) runs.ensures.second.1.labels target apart.1 in
     let is : get_or second.links.now target 0 ≡ 65535 = omega arith in
     let found = cut_is_found g.met.C.Cost.lawful n (g.met.N.Network.sound network) root target apart.0 apart.1 apart.2 _ (one.label (λ e. omega (arith, e))) (two.none is) in
@@ -69,10 +69,10 @@ returns-then-second-at g c =
     let root = c.args.root in
     let target = c.args.target in
     let apart = two_apart n.sites root target c.requires.sites in
-    let runs = c.both_runs-count in
+    let runs = c.both_runs in
     let first = runs.new.first in
     let second = runs.new.second in
-    let one = read_at k n.sites first.costs.now first.links.now first.turns.now (first_of k n root).labels (omega arith) runs.ensures.first.labels target apart.1 in
+    let one = read_at k n.sites first.costs.now first.links.now first.turns.now (first_of k n root).labels (omega arith) runs.ensures.first.1.labels target apart.1 in
     let two = read_at k n.sites second.costs.now second.links.now second.turns.now (second_of k n root).labels (omega arith) runs.ensures.second.1.labels target apart.1 in
     let is : get_or second.links.now target 0 ≡ 65535 = omega arith in (
       record { sites_stand = c.requires.sites; room_is = refl },
@@ -86,9 +86,9 @@ quote_pair-requires-clause-first g c =
     let n = g.N.Network.meaning c.args.network.now in
     let root = c.args.root in
     let target = c.args.target in
-    let runs = c.both_runs-count in
+    let runs = c.both_runs in
     let first = runs.new.first in
-    let one = read_at k n.sites first.costs.now first.links.now first.turns.now (first_of k n root).labels (omega arith) runs.ensures.first.labels target (two_apart n.sites root target c.requires.sites).1 in
+    let one = read_at k n.sites first.costs.now first.links.now first.turns.now (first_of k n root).labels (omega arith) runs.ensures.first.1.labels target (two_apart n.sites root target c.requires.sites).1 in
     at_same n _ root _ (λ m r. labelled ((first_of k m r).labels target) ≡ true) (sym (ap g.N.Network.meaning c.new-labels.ensures.network)) (sym c.new-labels.ensures.root) (one.some (λ e. omega (arith, e)))
 
 pub quote_pair-requires-clause-second : goal.quote_pair-requires-clause-second
@@ -97,7 +97,7 @@ quote_pair-requires-clause-second g c =
     let n = g.N.Network.meaning c.args.network.now in
     let root = c.args.root in
     let target = c.args.target in
-    let runs = c.both_runs-count in
+    let runs = c.both_runs in
     let second = runs.new.second in
     let two = read_at k n.sites second.costs.now second.links.now second.turns.now (second_of k n root).labels (omega arith) runs.ensures.second.1.labels target (two_apart n.sites root target c.requires.sites).1 in
     at_same n _ root _ (λ m r. labelled ((second_of k m r).labels target) ≡ true) (sym (ap g.N.Network.meaning c.new-labels.ensures.network)) (sym c.new-labels.ensures.root) (two.some (λ e. omega (arith, e)))
