@@ -26,8 +26,9 @@ whole_fields sites names links = record { sites = sites; count = length links; n
 abbrev pub overlong : Fields → Bool
 overlong f = nat_lt 65535 (length f.links) || long_name f.names
 
--- The bytes are the writing of the fields, unless there are too many links or too long a name, or memory is wanting.
+-- The bytes are the writing of the fields, unless there are too many links or too long a name, or,
+-- where neither is so, memory is wanting.
 abbrev pub Wrote : Fields → Result (Vec ℕ Global) WriteFault → Type 0
 Wrote f (Ok bytes) = (overlong f ≡ false) × (vec_items bytes ≡ written f)
 Wrote f (Err TooLong) = overlong f ≡ true
-Wrote f (Err Memory) = Unit {0}
+Wrote f (Err Memory) = overlong f ≡ false

@@ -5,11 +5,14 @@ ghost use Rattle.std.specs.Prelude.{◌≡◌, ◌+◌, ◌++◌, map, length};
 ghost use Rattle.records.specs.Bytes.{le16, le32};
 ghost use Rattle.sheet_format.specs.Items.{header, name as name_item, link as link_item};
 ghost use Rattle.sheet_writing.specs.Writes.{Appended};
-ghost use Rattle.sheet_writing.specs.Wholes.{named, whole_fields, Wrote};
+ghost use Rattle.sheet_writing.specs.Wholes.{named, long_name, whole_fields, Wrote};
 
 use networks::model::Link;
 use records::{WriteFault, push_record};
 use std::alloc::Global;
+
+// The longest name that a record's length can count, beside the two bytes of the site.
+const MOST_NAME_BYTES: usize = 65_533;
 
 /// Appends a header's record.
 pub fn push_header(out: &mut Vec<u8>, sites: u16, links: u16) -> Result<(), WriteFault>
@@ -51,7 +54,15 @@ pub struct SiteName<'a> {
     pub name: &'a [u8],
 }
 
-/// The bytes of a sheet: its header, which counts the links, its names and its links.
+// Whether one of the names is too long for a record's length.
+fn has_long_name(names: &[SiteName]) -> bool
+    ensures { result ≡ long_name (map named names.now) }
+{
+    names.iter().any(|name| name.name.len() > MOST_NAME_BYTES)
+}
+
+/// The bytes of a sheet: its header, which counts the links, its names and its links. What is too
+/// long is refused before memory is asked for.
 pub fn write(
     heap: Global,
     sites: u16,
@@ -61,6 +72,9 @@ pub fn write(
     ensures { Wrote (whole_fields sites (map named names.now) links.now) result }
 {
     let count = u16::try_from(links.len()).map_err(|_| WriteFault::TooLong)?;
+    if has_long_name(names) {
+        return Err(WriteFault::TooLong);
+    }
     let mut out = Vec::new(heap);
     push_header(&mut out, sites, count)?;
     for name in names {

@@ -1,6 +1,6 @@
 -- The names by their sites, and the bytes of one.
-use Rattle.std.proofs.Common.{◌≡◌, ◌↔◌, ℕ, zero, suc, ◌+◌, ◌-◌, ◌<◌, ◌≤◌, Bool, true, false, cond, ◌&&◌, eqb, ltb, leb, List, [], ◌∷◌, ◌++◌, map, length, get_or, Some, None, Option, Bor, Less, Greater, IsSome, IfSome, MatchOption, sym, refl, ap, ◌∙◌, arith}
-use Rattle.std.specs.List.{list_all, slice_get}
+use Rattle.std.proofs.Common.{◌≡◌, ℕ, ◌+◌, ◌<◌, ◌≤◌, Bool, true, false, cond, ◌&&◌, eqb, leb, List, [], ◌∷◌, ◌++◌, map, Some, None, Option, Bor, Less, Greater, MatchOption, sym, refl, ap, ◌∙◌, arith}
+use Rattle.std.specs.List.{list_all}
 use Rattle.std.specs.List.Sorted.{IsStrictlySortedBy}
 use Rattle.std.specs.Map.{keys_of, lookup}
 use Rattle.std.specs.BTreeMap.{insert_entry, is_at}
@@ -9,9 +9,7 @@ use Rattle.std.specs.Option.{option_map}
 use Rattle.std.specs.Cmp.{nat_cmp_is}
 use Rattle.std.proofs.lemmas.List.{map_push}
 use Rattle.std.proofs.lemmas.Map.Keys.{sorted_head, sorted_tail}
-use Rattle.std.proofs.lemmas.Option.{get_or_from_slice_get}
 use Rattle.std.proofs.lemmas.List.Recursion.{same_from_clauses}
-use Rattle.std.proofs.lemmas.Bool.{le-leb}
 use Rattle.std.proofs.lemmas.Bool.Decides.{nat_tests}
 use Rattle.sheet_format.specs.Rules.{next_site, printable}
 use Rattle.sheets.specs.Naming.{entry_of, name_of}
@@ -59,26 +57,6 @@ name_at (e ∷ es) site =
 pub named_by : (es : Entries) (site : ℕ) (o : Option (Bor (List ℕ))) → o ≡ lookup (is_at (nat_cmp site)) es → MatchOption o (name_of (map entry_of es) site ≡ None) (λ bytes. name_of (map entry_of es) site ≡ Some bytes.now)
 named_by es site None h = name_at es site ∙ ap (option_map (λ x. x.now)) (sym h)
 named_by es site (Some bytes) h = name_at es site ∙ ap (option_map (λ x. x.now)) (sym h)
-
-last_site : (k : ℕ) (es : Entries) (i : ℕ) (d : ℕ × Bor (List ℕ)) → i + 1 ≡ length es → next_site k (map entry_of es) ≡ (get_or es i d).0 + 1
-last_site k [] i d h = absurd (omega arith)
-last_site k (e ∷ []) zero d h = refl
-last_site k (e ∷ []) (suc i) d h = absurd (omega arith)
-last_site k (e ∷ f ∷ es) zero d h = absurd (omega arith)
-last_site k (e ∷ f ∷ es) (suc i) d h = last_site (e.0 + 1) (f ∷ es) i d (omega arith)
-
-below : (a b : ℕ) → ltb a b ≡ leb (a + 1) b
-below a b = grind (arith, nat_tests)
-
--- a site above the last named one, if there is one, is one that may be named next
-pub rises : (es : Entries) (site : ℕ) (last : Option (Bor ℕ × Bor (Bor (List ℕ)))) (r : Bool) → IsSome last ↔ (0 < length es) → IfSome last (λ p. slice_get es (length es - 1) ≡ Some (p.0.now, p.1.now)) → MatchOption last (r ≡ true) (λ p. r ≡ ltb p.0.now site) → r ≡ leb (next_site 0 (map entry_of es)) site
-rises [] site None r some is m = m ∙ sym (le-leb 0 site (omega arith))
-rises [] site (Some p) r some is m = absurd (omega (arith, some.0 refl))
-rises (e ∷ es) site None r some is m = cc (some.1 (omega arith))
-rises (e ∷ es) site (Some p) r some is m =
-    let i = length (e ∷ es) - 1 in
-    let last : get_or (e ∷ es) i e ≡ (p.0.now, p.1.now) = get_or_from_slice_get (e ∷ es) i (p.0.now, p.1.now) e is in
-    m ∙ ap (λ x. ltb x.0 site) (sym last) ∙ below _ site ∙ ap (λ n. leb n site) (sym (last_site 0 (e ∷ es) i e (omega arith)))
 
 -- whether a byte can be printed
 abbrev pub visible : ℕ → Bool

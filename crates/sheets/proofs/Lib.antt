@@ -1,3 +1,4 @@
 -- Lemmas on reading sheets.
 pub mod Finding
 pub mod Going
+pub mod Storing

@@ -1,5 +1,6 @@
 -- What the crate's contracts cite.
 pub mod Faults
 pub mod Naming
-pub mod Taking
+pub mod Gathering
 pub mod Reads
+pub mod Judging

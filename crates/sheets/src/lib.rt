@@ -3,5 +3,6 @@
 
 pub mod faults;
 pub mod gathering;
+mod judging;
 pub mod names;
 pub mod reading;

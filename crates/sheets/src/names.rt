@@ -31,15 +31,6 @@ impl<'a> Names<'a> {
         Ok(())
     }
 
-    // Whether a name of this site may come next: it is above the last one.
-    pub(crate) fn rises_to(&self, site: u16) -> bool
-        ensures { result ≡ nat_le (next_site 0 (named self.now)) site }
-    {
-        self.by_site
-            .last_key_value()
-            .is_none_or(|(last, _)| *last < site)
-    }
-
     /// The name of a site, if the sheet gives one.
     pub fn name(&self, site: u16) -> Option<&'a [u8]>
         ensures { MatchOption result (name_of (named self.now) site ≡ None) (λ bytes. name_of (named self.now) site ≡ Some bytes.now) }

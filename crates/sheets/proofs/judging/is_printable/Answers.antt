@@ -3,7 +3,7 @@ use Rattle.std.proofs.Common.{◌∙◌, rules, tests}
 use Rattle.std.proofs.lemmas.Iterator.{YieldsList-from_slice}
 use Rattle.std.proofs.lemmas.Iterator.Search.{all_from_yields_List}
 use Rattle.sheets.proofs.Finding.{visible, printable_all}
-use Rattle.sheets.proofs.gathering.is_printable.Goals as goal
+use Rattle.sheets.proofs.judging.is_printable.Goals as goal
 
 pub returns : goal.returns
 returns c =

@@ -1,0 +1,119 @@
+//! Memory is used up and comes back a little at a time: each call is right, or wants memory.
+use crate::inputs::{NAME, links, names, network};
+use grids::{GridPlan, street_grid};
+use networks::building::BuildRefusal;
+use networks::network::Network;
+use records::{WriteFault, push_record};
+use sheet_writing::write;
+use sheets::faults::SheetFault;
+use sheets::reading::read;
+use std::alloc::{AllocError, Global};
+use std::test::Fail;
+
+// So many blocks come back, one after the other. They are of a size that the allocator of the C
+// library joins with its neighbour.
+const ROUNDS: usize = 256;
+
+const BLOCK: usize = 1040;
+
+// The largest grid.
+const PLAN: GridPlan = GridPlan {
+    columns: 16,
+    rows: 16,
+    along: 100,
+    across: 200,
+    channels: 8,
+};
+
+// What a call has come to in any round.
+#[derive(Clone, Copy, PartialEq, Eq, Debug)]
+struct Seen {
+    right: bool,
+    wanting: bool,
+    wrong: bool,
+}
+
+impl Seen {
+    // With one round more: whether the answer is right, or whether the error is want of memory.
+    fn and(self, told: Result<bool, bool>) -> Seen {
+        Seen {
+            right: self.right || told == Ok(true),
+            wanting: self.wanting || told == Err(true),
+            wrong: self.wrong || told == Ok(false) || told == Err(false),
+        }
+    }
+}
+
+// All memory that is left: blocks as large as are given, then smaller ones. None is written to, so
+// that it is addresses that run out.
+fn use_up(heap: Global) -> Result<Vec<Vec<u8>>, AllocError> {
+    let mut held = Vec::with_capacity(heap, 200_000)?;
+    let mut size: usize = 1 << 46;
+    for _ in 0..200_000 {
+        match Vec::with_capacity(heap, size) {
+            Ok(block) => held.push(block)?,
+            Err(_) if size > 1 => size /= 2,
+            Err(_) => break,
+        }
+    }
+    Ok(held)
+}
+
+fn reading(heap: Global, bytes: &[u8]) -> Result<bool, bool> {
+    read(heap, bytes)
+        .map(|sheet| sheet.network.links() == 2048 && sheet.names.name(255).is_some())
+        .map_err(|fault| fault == SheetFault::Memory)
+}
+
+fn record(heap: Global, payload: &[u8]) -> Result<bool, bool> {
+    let mut out = Vec::new(heap);
+    push_record(&mut out, 9, payload, &[])
+        .map(|()| out.len() == 4 + payload.len())
+        .map_err(|fault| fault == WriteFault::Memory)
+}
+
+#[test]
+fn each_call_is_right_or_wants_memory(rt: HostRuntime) -> Result<(), Fail> {
+    let heap = rt.alloc();
+    let names = names(heap, &NAME)?;
+    let links = links(heap)?;
+    let bytes = write(heap, 256, names.as_slice(), links.as_slice())?;
+    let payload = vec![in heap; 7u8; 65_535]?;
+    let mut spare = Vec::with_capacity(heap, ROUNDS)?;
+    for _ in 0..ROUNDS {
+        spare.push(Vec::<u8>::with_capacity(heap, BLOCK)?)?;
+    }
+    let held = use_up(heap)?;
+    let mut seen = [Seen {
+        right: false,
+        wanting: false,
+        wrong: false,
+    }; 5];
+    for _ in 0..ROUNDS {
+        let written = write(heap, 256, names.as_slice(), links.as_slice())
+            .map(|again| again == bytes)
+            .map_err(|fault| fault == WriteFault::Memory);
+        let added = network(heap)
+            .map(|network| network.links() == 2048)
+            .map_err(|why| why == BuildRefusal::Memory);
+        let grid = street_grid(heap, PLAN)
+            .map(|grid| grid.links() == 960)
+            .map_err(|why| why == BuildRefusal::Memory);
+        seen = [
+            seen[0].and(reading(heap, bytes.as_slice())),
+            seen[1].and(written),
+            seen[2].and(added),
+            seen[3].and(grid),
+            seen[4].and(record(heap, payload.as_slice())),
+        ];
+        drop(spare.pop());
+    }
+    drop(held);
+    let both = Seen {
+        right: true,
+        wanting: true,
+        wrong: false,
+    };
+    assert_eq!(rt; seen, [both; 5]);
+    Ok(())
+}

@@ -1,0 +1,2 @@
+-- Lemmas on writing sheets.
+pub mod Lengths
