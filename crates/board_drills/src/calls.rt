@@ -1,11 +1,11 @@
 //! The calls on a board, drawn at random, bad arguments among them.
 use crate::certifying::Buffer;
-use crate::numbers::Numbers;
-use crate::plain_costs::Kind;
 use crate::planning::Ends;
 use crate::register::Register;
 use crate::room::Room;
 use desks::Ending;
+use plain_routes::numbers::Numbers;
+use plain_routes::plain_costs::Kind;
 use std::alloc::{AllocError, Global};
 
 /// A call on a board. An offer hands a hold to the board of another desk.

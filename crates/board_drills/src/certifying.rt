@@ -1,12 +1,12 @@
 //! Certificates, compared with bytes that plain code puts together.
 use crate::comparing::is_certificate;
 use crate::faults::{Fault, same_answer};
-use crate::numbers::Numbers;
 use crate::register::{Circuit, Register};
 use crate::tallies::Tally;
 use boards::Board;
 use certificates::reading::read;
 use networks::network::Network;
+use plain_routes::numbers::Numbers;
 use refusals::Refusal;
 use std::alloc::{AllocError, Global};
 

@@ -1,11 +1,11 @@
 //! Networks drawn at random, each as plain numbers and as a network.
 use crate::given::{District, Given, GivenLink};
-use crate::numbers::Numbers;
 use grids::{GridPlan, street_grid};
 use layers::closed::Closing;
 use layers::surcharged::Surcharge;
 use networks::model::Link;
 use networks::owned::OwnedNetwork;
+use plain_routes::numbers::Numbers;
 use std::alloc::Global;
 
 // The metres and the pole metres of a link: few, so that costs tie, and some that amounts soon raise to the most.
@@ -37,21 +37,6 @@ impl Width {
     }
 }
 
-// The ends of a link: two different sites, or in one of four links those of the link before, beside which it then runs.
-fn drawn_ends(numbers: &mut Numbers, sites: u16, before: (u16, u16)) -> (u16, u16) {
-    if before.0 != before.1 && numbers.is_one_in(4) {
-        return before;
-    }
-    let start = numbers.below(sites);
-    let other = numbers.below(sites.saturating_sub(1));
-    let end = if other < start {
-        other
-    } else {
-        other.saturating_add(1)
-    };
-    (start, end)
-}
-
 // A link with these ends, one in twelve of them dark, and one in four with channels taken.
 fn drawn_link(numbers: &mut Numbers, width: Width, ends: (u16, u16)) -> GivenLink {
     let (metres, poles) = numbers.one_of(&LENGTHS).unwrap_or((1, 0));
@@ -79,7 +64,7 @@ pub fn drawn_network(heap: Global, numbers: &mut Numbers, width: Width) -> anyho
     let mut given = Given::empty(heap, sites);
     let mut ends = (0, 0);
     for _ in 0..links {
-        ends = drawn_ends(numbers, sites, ends);
+        ends = numbers.ends(sites, ends);
         given.links.push(drawn_link(numbers, width, ends))?;
     }
     Ok(given)

@@ -2,11 +2,11 @@
 use crate::calls::Call;
 use crate::faults::Fault;
 use crate::given::Given;
-use crate::numbers::Numbers;
 use crate::side::Side;
 use crate::tallies::Tally;
 use anyhow::anyhow;
 use networks::network::Network;
+use plain_routes::numbers::Numbers;
 use std::alloc::Global;
 
 // How many calls a drill makes.

@@ -1,11 +1,11 @@
 //! Quotes and holds, compared with enumeration.
-use crate::enumeration::{Answer, answer_by};
 use crate::faults::{Fault, same_answer};
-use crate::plain_costs::{Kind, PlainCost};
 use crate::planning::{Ends, Told};
 use crate::register::{Circuit, Register};
 use crate::room::Room;
-use crate::routes::{PlainLink, Route, routes_from, routes_to};
+use plain_routes::enumeration::{Answer, answer_by};
+use plain_routes::plain_costs::{Kind, PlainCost};
+use plain_routes::routes::{Passing, PlainLink, Route, routes_from, routes_to};
 use refusals::Refusal;
 use std::alloc::Global;
 
@@ -16,7 +16,7 @@ pub fn answer_for(
     ends: Ends,
     kind: Kind,
 ) -> Result<Answer, Fault> {
-    let all = routes_from(heap, links, ends.root)?;
+    let all = routes_from(heap, links, ends.root, Passing::Once)?;
     let routes = routes_to(heap, all.as_slice(), ends.target)?;
     answer_by(routes.as_slice(), kind).ok_or(Fault::Contradiction)
 }
@@ -68,7 +68,7 @@ impl<'a> Lent<'a> {
         if !self.is_left_from(count) {
             return None;
         }
-        Route::over(links, root, self.after.get(..count)?)
+        Route::over(links, root, self.after.get(..count)?, Passing::Once)
     }
 }
 

@@ -1,13 +1,13 @@
 //! Quotes, surveys and holds of a board, in working tables of their own.
 use crate::faults::Fault;
-use crate::kinds::Known;
-use crate::plain_costs::PlainCost;
 use crate::room::{Room, Table};
 use boards::{Board, HoldRefusal};
 use costs::Cost;
 use desks::Desk;
 use marks::{Bytes, Marks};
 use networks::network::Network;
+use plain_routes::kinds::Known;
+use plain_routes::plain_costs::PlainCost;
 use planner_tables::{PlannerRefusal, Tables};
 use queue::Entry;
 use quotes::Quote;

@@ -1,7 +1,7 @@
 //! The register that a board is compared with: plain numbers, kept beside the board by plain code.
 use crate::given::{Given, GivenLink};
-use crate::plain_costs::PlainLengths;
-use crate::routes::{PlainLink, Route};
+use plain_routes::plain_costs::PlainLengths;
+use plain_routes::routes::{PlainLink, Route};
 use refusals::Refusal;
 use std::alloc::{AllocError, Global};
 

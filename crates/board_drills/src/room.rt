@@ -1,5 +1,5 @@
 //! How long the tables of a call are.
-use crate::numbers::Numbers;
+use plain_routes::numbers::Numbers;
 
 /// The tables that are lent to a call.
 #[derive(Clone, Copy, PartialEq, Eq)]

@@ -4,8 +4,8 @@ use crate::drawing::{
 };
 use crate::drill::drill;
 use crate::given::Given;
-use crate::numbers::Numbers;
 use crate::tallies::Tally;
+use plain_routes::numbers::Numbers;
 
 // How many seeds there are.
 const SEEDS: u32 = 240;

@@ -2,13 +2,9 @@
 use crate::calls::Call;
 use crate::certifying::compare_certificate;
 use crate::comparing::{same_link, same_whole};
-use crate::enumeration::Answer;
 use crate::faults::{Fault, same_answer};
 use crate::given::Given;
-use crate::kinds::Known;
-use crate::numbers::Numbers;
 use crate::pairing::{Lent, expected_total, same_pair};
-use crate::plain_costs::{Kind, PlainCost};
 use crate::planning::{Ends, Told, hold, quote};
 use crate::register::Register;
 use crate::room::{Room, Table};
@@ -17,6 +13,10 @@ use crate::tallies::Tally;
 use costs::{Length, PolesFirst};
 use desks::{Desk, Ending};
 use networks::network::Network;
+use plain_routes::enumeration::Answer;
+use plain_routes::kinds::Known;
+use plain_routes::numbers::Numbers;
+use plain_routes::plain_costs::{Kind, PlainCost};
 use refusals::Refusal;
 use std::alloc::{AllocError, Global};
 

@@ -1,8 +1,5 @@
 //! Surveys, compared with enumeration.
-use crate::enumeration::Answer;
 use crate::faults::{Fault, same_answer};
-use crate::kinds::Known;
-use crate::numbers::Numbers;
 use crate::pairing::answer_for;
 use crate::planning::{Ends, survey};
 use crate::register::Register;
@@ -10,6 +7,9 @@ use crate::room::{Room, Table};
 use crate::tallies::Tally;
 use boards::Board;
 use networks::network::Network;
+use plain_routes::enumeration::Answer;
+use plain_routes::kinds::Known;
+use plain_routes::numbers::Numbers;
 use refusals::Refusal;
 use std::alloc::{AllocError, Global};
 use surveys::Outcome;

@@ -1,5 +1,5 @@
 //! How much was compared.
-use crate::enumeration::Answer;
+use plain_routes::enumeration::Answer;
 use refusals::Refusal;
 use std::fmt;
 

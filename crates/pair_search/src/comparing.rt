@@ -1,15 +1,15 @@
 //! Quotes and surveys of a network, compared with enumeration.
-use crate::enumeration::{Answer, answer_by};
 use crate::faults::Fault;
-use crate::kinds::Known;
-use crate::links::{PlainLink, plain_links};
-use crate::plain_costs::Kind;
+use crate::links::plain_links;
 use crate::planning::{Planned, quote_to, survey_from};
-use crate::routes::{Route, routes_from, routes_to};
 use crate::tallies::Tally;
 use anyhow::anyhow;
 use costs::{Length, PolesFirst};
 use networks::network::Network;
+use plain_routes::enumeration::{Answer, answer_by};
+use plain_routes::kinds::Known;
+use plain_routes::plain_costs::Kind;
+use plain_routes::routes::{Passing, PlainLink, Route, routes_from, routes_to};
 use planner_tables::PlannerRefusal;
 use std::alloc::Global;
 use surveys::Outcome;
@@ -23,22 +23,12 @@ struct Case<'a, N> {
     routes: &'a [Route],
 }
 
-// The route of these links from a root. None if they are none.
-fn route_of(links: &[PlainLink], root: u16, numbers: &[u16]) -> Option<Route> {
-    let mut route = Route::begun(root);
-    for number in numbers {
-        let link = links.get(usize::from(*number))?;
-        route = route.with(link)?;
-    }
-    Some(route)
-}
-
 // Whether a quote's routes both lead to the target, share no link, and cost the quote's total together.
 fn is_pair<N, C: Known>(case: &Case<N>, target: u16, planned: &Planned<C>) -> bool {
-    let Some(one) = route_of(case.links, case.root, planned.one()) else {
+    let Some(one) = Route::over(case.links, case.root, planned.one(), Passing::Often) else {
         return false;
     };
-    let Some(two) = route_of(case.links, case.root, planned.two()) else {
+    let Some(two) = Route::over(case.links, case.root, planned.two(), Passing::Often) else {
         return false;
     };
     let apart = one.used.common(two.used).is_empty();
@@ -178,7 +168,7 @@ pub fn compare<N: Network>(
 ) -> anyhow::Result<()> {
     let links = plain_links(rt.alloc(), network)?;
     for root in 0..roots {
-        let routes = routes_from(rt.alloc(), links.as_slice(), root)?;
+        let routes = routes_from(rt.alloc(), links.as_slice(), root, Passing::Often)?;
         let case = Case {
             network,
             links: links.as_slice(),

@@ -1,10 +1,10 @@
 //! Networks and layers over them, drawn at random.
-use crate::numbers::Numbers;
 use layers::closed::Closing;
 use layers::surcharged::Surcharge;
 use networks::model::Link;
 use networks::network::Network;
 use networks::owned::OwnedNetwork;
+use plain_routes::numbers::Numbers;
 use std::alloc::Global;
 
 // The metres and the pole metres of a link: few, so that costs tie.
@@ -12,21 +12,6 @@ const LENGTHS: [(u32, u32); 6] = [(1, 0), (1, 1), (2, 0), (2, 1), (3, 0), (3, 3)
 
 // The most channels of a link.
 const MOST_CHANNELS: u16 = 3;
-
-// The ends of a link: two different sites, or in one of four links those of the link before, beside which it then runs.
-fn drawn_ends(numbers: &mut Numbers, sites: u16, before: (u16, u16)) -> (u16, u16) {
-    if before.0 != before.1 && numbers.is_one_in(4) {
-        return before;
-    }
-    let start = numbers.below(sites);
-    let other = numbers.below(sites.saturating_sub(1));
-    let end = if other < start {
-        other
-    } else {
-        other.saturating_add(1)
-    };
-    (start, end)
-}
 
 // A link with these ends, one in ten of them dark.
 fn drawn_link(numbers: &mut Numbers, ends: (u16, u16)) -> Link {
@@ -46,7 +31,7 @@ pub fn drawn_network(heap: Global, numbers: &mut Numbers) -> anyhow::Result<Owne
     let mut network = OwnedNetwork::empty(heap, sites)?;
     let mut ends = (0, 0);
     for _ in 0..links {
-        ends = drawn_ends(numbers, sites, ends);
+        ends = numbers.ends(sites, ends);
         network.add(drawn_link(numbers, ends))?;
     }
     Ok(network)

@@ -1,5 +1,5 @@
 //! How the planner and enumeration can differ.
-use crate::enumeration::Answer;
+use plain_routes::enumeration::Answer;
 use std::alloc::AllocError;
 use std::fmt;
 

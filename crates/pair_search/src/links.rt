@@ -1,20 +1,11 @@
 //! A network's links as it tells them, in plain numbers.
-use crate::link_sets::MOST_LINKS;
-use crate::plain_costs::PlainLengths;
 use anyhow::anyhow;
 use networks::model::NetworkRefusal;
 use networks::network::Network;
+use plain_routes::link_sets::MOST_LINKS;
+use plain_routes::plain_costs::PlainLengths;
+use plain_routes::routes::PlainLink;
 use std::alloc::{AllocError, Global};
-
-/// A link by its number.
-#[derive(Clone, Copy)]
-pub struct PlainLink {
-    pub number: u16,
-    pub start: u16,
-    pub end: u16,
-    pub lengths: PlainLengths,
-    pub usable: bool,
-}
 
 // A link is usable if it is lit and has a channel free.
 fn plain_link<N: Network>(network: &N, number: u16) -> Result<PlainLink, NetworkRefusal> {

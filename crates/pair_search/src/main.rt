@@ -3,16 +3,10 @@
 
 mod comparing;
 mod drawing;
-mod enumeration;
 mod example;
 mod faults;
-mod kinds;
-mod link_sets;
 mod links;
-mod numbers;
-mod plain_costs;
 mod planning;
-mod routes;
 mod sampled;
 mod small;
 mod tallies;

@@ -1,9 +1,9 @@
 //! A sample of larger networks, with and without layers over them: with links side by side, costs that tie, dark and closed links, and links with no channel free.
 use crate::comparing::compare;
 use crate::drawing::{closed, drawn_network, fill, surcharged};
-use crate::numbers::Numbers;
 use crate::tallies::Tally;
 use networks::network::Network;
+use plain_routes::numbers::Numbers;
 
 // How many networks are drawn for each pile of layers.
 const NETWORKS: u16 = 1000;

@@ -1,5 +1,5 @@
 //! How much was compared.
-use crate::enumeration::Answer;
+use plain_routes::enumeration::Answer;
 use std::fmt;
 
 /// How many networks, quotes and survey entries were compared, and how many quotes had a pair, a cutting link and no route.

@@ -1,10 +1,20 @@
-//! Every route from a root that passes no site twice, listed. Of the links of a route that passes one twice some make a cheaper route that does not; so without such routes the answers are the same.
-use crate::link_sets::LinkSet;
+//! Every route from a root, listed. A route is one usable link or more, each of which starts where
+//! the one before it ends, and none of which comes twice.
+use crate::link_sets::{LinkSet, MOST_LINKS};
 use crate::plain_costs::PlainLengths;
 use std::alloc::{AllocError, Global};
 
-/// The most sites that a network has here.
+/// The most sites that a network has here if its sites are passed once.
 pub const MOST_SITES: usize = 12;
+
+/// How often a route may pass a site: once, or any number of times. Of the links of a route that
+/// passes one twice some make a cheaper route that does not; so without such routes the answers are
+/// the same.
+#[derive(Clone, Copy, PartialEq, Eq)]
+pub enum Passing {
+    Once,
+    Often,
+}
 
 /// A link by its number, as it can be used at some time.
 #[derive(Clone, Copy)]
@@ -22,14 +32,15 @@ pub struct Route {
     pub end: u16,
     pub used: LinkSet,
     pub lengths: PlainLengths,
-    links: [u16; MOST_SITES],
-    passed: [bool; MOST_SITES],
+    links: [u16; MOST_LINKS],
     count: usize,
+    passing: Passing,
+    passed: [bool; MOST_SITES],
 }
 
 impl Route {
     /// The beginning of every route from a root.
-    pub fn begun(root: u16) -> Route {
+    pub fn begun(root: u16, passing: Passing) -> Route {
         let mut passed = [false; MOST_SITES];
         if let Some(mark) = passed.get_mut(usize::from(root)) {
             *mark = true;
@@ -38,23 +49,33 @@ impl Route {
             end: root,
             used: LinkSet::NONE,
             lengths: PlainLengths::NOTHING,
-            links: [0; MOST_SITES],
-            passed,
+            links: [0; MOST_LINKS],
             count: 0,
+            passing,
+            passed,
         }
     }
 
-    /// The route with a link more, if that link can follow.
-    pub fn with(&self, link: &PlainLink) -> Option<Route> {
-        if !link.usable || link.start != self.end {
-            return None;
+    // Marks a site as passed. None if it may be passed once and was, or if it has no mark.
+    fn pass(&mut self, site: u16) -> Option<()> {
+        if self.passing == Passing::Often {
+            return Some(());
         }
-        let mut longer = *self;
-        let mark = longer.passed.get_mut(usize::from(link.end))?;
+        let mark = self.passed.get_mut(usize::from(site))?;
         if *mark {
             return None;
         }
         *mark = true;
+        Some(())
+    }
+
+    /// The route with a link more, if that link can follow.
+    pub fn with(&self, link: &PlainLink) -> Option<Route> {
+        if !link.usable || link.start != self.end || self.used.has(link.number) {
+            return None;
+        }
+        let mut longer = *self;
+        longer.pass(link.end)?;
         let place = longer.links.get_mut(self.count)?;
         *place = link.number;
         longer.count = self.count.saturating_add(1);
@@ -65,8 +86,13 @@ impl Route {
     }
 
     /// The route of these links from a root. None if they are none.
-    pub fn over(links: &[PlainLink], root: u16, numbers: &[u16]) -> Option<Route> {
-        let mut route = Route::begun(root);
+    pub fn over(
+        links: &[PlainLink],
+        root: u16,
+        numbers: &[u16],
+        passing: Passing,
+    ) -> Option<Route> {
+        let mut route = Route::begun(root, passing);
         for number in numbers {
             let link = links.get(usize::from(*number))?;
             route = route.with(link)?;
@@ -100,10 +126,16 @@ fn list_longer(
     Ok(())
 }
 
-/// Every route from a root over some links, the shorter ones first: those of one link, then those that have one link more than these, and so on, up to as many links as there are.
-pub fn routes_from(heap: Global, links: &[PlainLink], root: u16) -> Result<Vec<Route>, AllocError> {
+/// Every route from a root over some links, the shorter ones first: those of one link, then those
+/// that have one link more than these, and so on, up to as many links as there are.
+pub fn routes_from(
+    heap: Global,
+    links: &[PlainLink],
+    root: u16,
+    passing: Passing,
+) -> Result<Vec<Route>, AllocError> {
     let mut routes = Vec::new(heap);
-    list_longer(&mut routes, &Route::begun(root), links)?;
+    list_longer(&mut routes, &Route::begun(root, passing), links)?;
     let mut from = 0;
     for _ in links {
         let until = routes.len();

@@ -31,4 +31,27 @@ impl Numbers {
     pub fn is_one_in(&mut self, times: u16) -> bool {
         self.below(times) == 0
     }
+
+    /// One of some values; none of no value.
+    pub fn one_of<T: Copy>(&mut self, values: &[T]) -> Option<T> {
+        let bound = u16::try_from(values.len()).unwrap_or(u16::MAX);
+        let place = usize::from(self.below(bound));
+        values.get(place).copied()
+    }
+
+    /// The ends of a link: two different sites, or in one of four links those of the link before,
+    /// beside which it then runs.
+    pub fn ends(&mut self, sites: u16, before: (u16, u16)) -> (u16, u16) {
+        if before.0 != before.1 && self.is_one_in(4) {
+            return before;
+        }
+        let start = self.below(sites);
+        let other = self.below(sites.saturating_sub(1));
+        let end = if other < start {
+            other
+        } else {
+            other.saturating_add(1)
+        };
+        (start, end)
+    }
 }
