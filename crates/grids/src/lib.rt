@@ -8,6 +8,7 @@ ghost use Rattle.networks.specs.Owning.{owned_meaning};
 ghost use Rattle.grids.specs.Streets.{street, two_ways, row_site, grid_within, Plan, Made, net, ReturnLinksStandBeside};
 
 use networks::building::BuildRefusal;
+use networks::limits::{MOST_CHANNELS, MOST_METRES};
 use networks::model::Link;
 use networks::owned::OwnedNetwork;
 use std::alloc::Global;
@@ -29,9 +30,9 @@ impl GridPlan {
         ensures { result ≡ grid_within self.now.columns self.now.rows self.now.along self.now.across self.now.channels }
     {
         let shape = (2..=16).contains(&self.columns) && (2..=16).contains(&self.rows);
-        let lengths = (1..=1_000_000).contains(&self.along)
-            && (1..=1_000_000).contains(&self.across);
-        shape && lengths && (1..=255).contains(&self.channels)
+        let lengths = (1..=MOST_METRES).contains(&self.along)
+            && (1..=MOST_METRES).contains(&self.across);
+        shape && lengths && (1..=MOST_CHANNELS).contains(&self.channels)
     }
 }
 

@@ -8,10 +8,11 @@ ghost use Rattle.layers.specs.SurchargeLaws.{charged_shows, charged_more, charge
 use crate::change::Change;
 use crate::refusing::SurchargeRefusal;
 use crate::surcharged::{Surcharge, Surcharges};
+use networks::limits::MOST_METRES;
 use networks::network::Network;
 
-// The most that an amount, and the metres shown, may be.
-const MOST: u32 = 1_000_000;
+// The most that an amount may be: as much as the metres of a link.
+const MOST_AMOUNT: u32 = MOST_METRES;
 
 impl Change for Surcharges {
     ghost shown = { λ s. charging (amount_on s) };
@@ -42,7 +43,7 @@ impl Change for Surcharges {
 
     fn metres(&self, link: u16, below: u32) -> u32 {
         let amount = self.amounts.get(usize::from(link)).copied().unwrap_or(0);
-        below.saturating_add(amount).min(MOST)
+        below.saturating_add(amount).min(MOST_METRES)
     }
 }
 
@@ -57,7 +58,7 @@ impl<N: Network> Surcharge<N> {
         if link >= self.below.links() {
             return Err(SurchargeRefusal::LinkTooHigh);
         }
-        if amount > MOST {
+        if amount > MOST_AMOUNT {
             return Err(SurchargeRefusal::OutsideLimits);
         }
         self.change.amounts[usize::from(link)] = amount;

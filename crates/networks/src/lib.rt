@@ -2,6 +2,7 @@
 #![tactic(auto)]
 
 pub mod building;
+pub mod limits;
 pub mod model;
 pub mod network;
 pub mod owned;

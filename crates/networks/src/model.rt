@@ -4,6 +4,7 @@ ghost use Rattle.networks.specs.Meaning.{link_sound, usable, lit_link};
 ghost use Rattle.networks.specs.Refusing.{refusal};
 ghost use Rattle.refusals.specs.Numbers.{rule};
 
+use crate::limits::{MOST_CHANNELS, MOST_METRES};
 use refusals::Refusal;
 use std::error::Error;
 use std::fmt;
@@ -42,8 +43,8 @@ impl Link {
         ensures { result ≡ link_sound sites self.now }
     {
         let ends = self.start < sites && self.end < sites && self.start != self.end;
-        let lengths = (1..=1_000_000).contains(&self.metres) && self.poles <= self.metres;
-        let channels = (1..=255).contains(&self.channels) && self.taken <= self.channels;
+        let lengths = (1..=MOST_METRES).contains(&self.metres) && self.poles <= self.metres;
+        let channels = (1..=MOST_CHANNELS).contains(&self.channels) && self.taken <= self.channels;
         ends && lengths && channels
     }
 

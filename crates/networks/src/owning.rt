@@ -6,20 +6,18 @@ ghost use Rattle.networks.specs.Telling.{told};
 ghost use Rattle.std.proofs.Common.{rules};
 
 use crate::building::BuildRefusal;
+use crate::limits::{FEWEST_SITES, MOST_LINKS, MOST_SITES};
 use crate::model::{Link, NetworkRefusal};
 use crate::network::Network;
 use crate::owned::OwnedNetwork;
 use std::alloc::Global;
-
-// The most links that a network has.
-const MOST_LINKS: usize = 2048;
 
 impl OwnedNetwork {
     /// A network of so many sites and no link yet.
     pub fn empty(heap: Global, sites: u16) -> Result<OwnedNetwork, BuildRefusal>
         ensures { Begun sites result }
     {
-        if !(2..=256).contains(&sites) {
+        if !(FEWEST_SITES..=MOST_SITES).contains(&sites) {
             return Err(BuildRefusal::OutsideLimits);
         }
         let links = Vec::new(heap);
@@ -31,7 +29,7 @@ impl OwnedNetwork {
     pub fn add(&mut self, link: Link) -> Result<(), BuildRefusal>
         ensures { Added (owned_meaning self.old) link result (owned_meaning self.new) }
     {
-        if self.links.len() >= MOST_LINKS || !link.is_sound(self.sites) {
+        if self.links.len() >= usize::from(MOST_LINKS) || !link.is_sound(self.sites) {
             return Err(BuildRefusal::OutsideLimits);
         }
         self.links.push(link)?;

@@ -4,6 +4,7 @@ ghost use Rattle.sheet_format.specs.Rules.{printable};
 ghost use Rattle.sheets.specs.Judging.{Judges};
 
 use crate::faults::SheetFault;
+use networks::limits::{FEWEST_SITES, MOST_LINKS, MOST_SITES};
 use networks::model::Link;
 use sheet_records::faults::RecordFault;
 use sheet_records::reader::RecordReader;
@@ -47,7 +48,7 @@ impl Tally {
         let Record::Header { sites, links } = record else {
             return Err(SheetFault::OutOfOrder { place });
         };
-        if !(2..=256).contains(&sites) || links > 2048 {
+        if !(FEWEST_SITES..=MOST_SITES).contains(&sites) || links > MOST_LINKS {
             return Err(SheetFault::OutsideLimits { place });
         }
         Ok(Tally {
