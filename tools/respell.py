@@ -14,6 +14,10 @@ import os
 import re
 import sys
 
+# What it turns has been turned: names of the code that have come since are not its to change.
+if os.path.exists("docs/PORT.md") and "--list" not in sys.argv:
+    sys.exit("respell.py: the names of this repository have been turned already (docs/PORT.md); it does nothing")
+
 NAME = r"[A-Za-zℕℤ_][\w'ℕℤ]*(?:-[\w'ℕℤ]+)*"
 WORD = re.compile(NAME)
 CRATES = sorted(c for c in os.listdir("crates") if os.path.isdir(os.path.join("crates", c, "src")))
