@@ -45,7 +45,8 @@ impl Seen {
 }
 
 // All memory that is left: blocks as large as are given, then smaller ones. None is written to, so
-// that it is addresses that run out.
+// that addresses run out and no page is taken from others. An allocator that keeps room of its own
+// for small blocks, as one that checks each access, is not used up so, and the test fails.
 fn use_up(heap: Global) -> Result<Vec<Vec<u8>>, AllocError> {
     let mut held = Vec::with_capacity(heap, 200_000)?;
     let mut size: usize = 1 << 46;
