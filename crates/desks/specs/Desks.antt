@@ -23,7 +23,11 @@ Whole rows holds = (c : ℕ) → is_some (holds c) ≡ is_held (rows c)
 
 -- what the board answered: a hold of its own for the circuit, which the desk keeps
 abbrev pub as_held : ℕ → ℕ → Result (ℕ × ℕ) HoldRefusal → Result Held HoldRefusal
-as_held number circuit (Ok counts) = Ok (record { hold = record { board = number; circuit = circuit }; one = counts.0; two = counts.1 })
+as_held number circuit (Ok counts) = Ok (record {
+  hold = record { board = number; circuit = circuit };
+  one = counts.0;
+  two = counts.1;
+})
 as_held number circuit (Err why) = Err why
 
 -- the links of the routes that a hold answered stand at the front of the route tables
@@ -33,15 +37,24 @@ routes_kept (Err why) one two = ([], [])
 
 -- a hold as it was fed: the desk keeps the hold, and answers how many links each route has
 abbrev pub kept : ℕ → ℕ → ℕ → Result (ℕ × ℕ) HoldRefusal → List ℕ → List ℕ → Event
-kept circuit root target answer one two = record { call = hold circuit root target; accepted = is_ok answer; one = (routes_kept answer one two).0; two = (routes_kept answer one two).1 }
+kept circuit root target answer one two = record {
+  call = hold circuit root target;
+  accepted = is_ok answer;
+  one = (routes_kept answer one two).0;
+  two = (routes_kept answer one two).1;
+}
 
--- a board accepts the holds of a board of some number for a circuit: it has this number, and the circuit's row is held
+-- a board accepts the holds of a board of some number for a circuit: it has this number, and the
+-- circuit's row is held
 abbrev pub accepts : State → ℕ → ℕ → Bool
 accepts s board circuit = board == s.number && is_held (s.rows circuit)
 
--- what a board makes of an offered hold: where such a hold is in hand, and the other board does not accept it, it is refused with its two numbers
+-- what another board makes of an offered hold: where such a hold is in hand, and that board does
+-- not accept it, it is refused with its two numbers
 abbrev pub offer_answer : State → ℕ → State → Option Refusal
-offer_answer own circuit other = cond (is_held (own.rows circuit) && not (accepts other own.number circuit)) (Some (listed.NotHeld own.number circuit)) None
+offer_answer own circuit other =
+    cond (is_held (own.rows circuit) && not (accepts other own.number circuit))
+    (Some (listed.NotHeld own.number circuit)) None
 
 -- the call by which a hold is to end
 abbrev pub ending_call : Ending → ℕ → ℕ → Call

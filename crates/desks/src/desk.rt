@@ -11,7 +11,8 @@ ghost use Rattle.registers.specs.Histories.{Came};
 ghost use Rattle.boards.specs.Boards.{state};
 ghost use Rattle.boards.specs.Calls.{event, Does, HoldAnswered, release_answer};
 ghost use Rattle.desks.specs.Slots.{hand};
-ghost use Rattle.desks.specs.Desks.{Matched, Whole, as_held, kept, accepts, offer_answer, ending_call, held_circuits, withdrawals, DoesAll};
+ghost use Rattle.desks.specs.Desks.{Matched, Whole, as_held, kept, accepts, offer_answer};
+ghost use Rattle.desks.specs.Desks.{ending_call, held_circuits, withdrawals, DoesAll};
 
 use crate::ending::Ending;
 use crate::slots::Slots;
@@ -26,7 +27,9 @@ use planner_tables::Tables;
 use refusals::Refusal;
 use std::alloc::{AllocError, Global};
 
-/// A board, and the holds in hand, each in the slot of its circuit: they are those of exactly the circuits whose rows are held. A hold cannot be dropped, and only an accepted confirmation or withdrawal ends it; the board would accept each of these.
+/// A board, and the holds in hand, each in the slot of its circuit: they are those of exactly the
+/// circuits whose rows are held. A hold cannot be dropped, and only an accepted confirmation or
+/// withdrawal ends it; the board would accept each of these.
 pub struct Desk<N> {
     pub(crate) board: Board<N>,
     pub(crate) slots: Slots,
@@ -41,7 +44,8 @@ impl<N: Network> Desk<N> {
     pub fn begin(heap: Global, number: u32, network: N) -> Result<Desk<N>, AllocError>
     where
         N: Drop,
-        ensures { IfOk result (λ desk. Came number (N.Network.meaning network) [] (desk_state N.Network.meaning desk)) }
+        ensures { IfOk result (λ desk.
+            Came number (N.Network.meaning network) [] (desk_state N.Network.meaning desk)) }
     {
         Ok(Desk {
             slots: Slots::empty(heap)?,
@@ -59,7 +63,10 @@ impl<N: Network> Desk<N> {
     /// Closes a link.
     pub fn close(&mut self, link: u16) -> Result<(), NetworkRefusal>
         ensures answer { result ≡ told (λ _. tt) (desk_state N.Network.meaning self.old).bottom link }
-        ensures does { Does (desk_state N.Network.meaning self.old) (event (close link) (is_ok result)) (desk_state N.Network.meaning self.new) }
+        ensures does { Does
+            (desk_state N.Network.meaning self.old)
+            (event (close link) (is_ok result))
+            (desk_state N.Network.meaning self.new) }
     {
         self.board.close(link)
     }
@@ -67,15 +74,22 @@ impl<N: Network> Desk<N> {
     /// Reopens a link.
     pub fn reopen(&mut self, link: u16) -> Result<(), NetworkRefusal>
         ensures answer { result ≡ told (λ _. tt) (desk_state N.Network.meaning self.old).bottom link }
-        ensures does { Does (desk_state N.Network.meaning self.old) (event (reopen link) (is_ok result)) (desk_state N.Network.meaning self.new) }
+        ensures does { Does
+            (desk_state N.Network.meaning self.old)
+            (event (reopen link) (is_ok result))
+            (desk_state N.Network.meaning self.new) }
     {
         self.board.reopen(link)
     }
 
     /// Sets the amount on a link.
     pub fn surcharge(&mut self, link: u16, amount: u32) -> Result<(), SurchargeRefusal>
-        ensures answer { result ≡ surcharge_answer (desk_state N.Network.meaning self.old).bottom link amount }
-        ensures does { Does (desk_state N.Network.meaning self.old) (event (surcharge link amount) (is_ok result)) (desk_state N.Network.meaning self.new) }
+        ensures answer { result
+            ≡ surcharge_answer (desk_state N.Network.meaning self.old).bottom link amount }
+        ensures does { Does
+            (desk_state N.Network.meaning self.old)
+            (event (surcharge link amount) (is_ok result))
+            (desk_state N.Network.meaning self.new) }
     {
         self.board.surcharge(link, amount)
     }
@@ -83,12 +97,16 @@ impl<N: Network> Desk<N> {
     /// Releases a confirmed circuit.
     pub fn release(&mut self, circuit: u8) -> Result<(), LedgerRefusal>
         ensures answer { result ≡ release_answer (desk_state N.Network.meaning self.old).rows circuit }
-        ensures does { Does (desk_state N.Network.meaning self.old) (event (release circuit) (is_ok result)) (desk_state N.Network.meaning self.new) }
+        ensures does { Does
+            (desk_state N.Network.meaning self.old)
+            (event (release circuit) (is_ok result))
+            (desk_state N.Network.meaning self.new) }
     {
         self.board.release(circuit)
     }
 
-    /// Holds a circuit, keeps the hold in hand, and answers how many links each of the two routes has.
+    /// Holds a circuit, keeps the hold in hand, and answers how many links each of the two routes
+    /// has.
     pub fn hold<C: Cost + Copy, M: Marks>(
         &mut self,
         heap: Global,
@@ -99,8 +117,16 @@ impl<N: Network> Desk<N> {
         one: &mut [u16],
         two: &mut [u16],
     ) -> Result<(u16, u16), HoldRefusal>
-        ensures answer { HoldAnswered C.Cost.ops (desk_state N.Network.meaning self.old) circuit root target (long_enough (shown (desk_state N.Network.meaning self.old)).sites M.Marks.rooms tables.entry && all_fit (shown (desk_state N.Network.meaning self.old)).sites (length one.old ∷ length two.old ∷ [])) (as_held (desk_state N.Network.meaning self.old).number circuit result) one.old two.old one.new two.new }
-        ensures does { Does (desk_state N.Network.meaning self.old) (kept circuit root target result one.new two.new) (desk_state N.Network.meaning self.new) }
+        ensures answer { let s = desk_state N.Network.meaning self.old in
+            let sites = (shown s).sites in
+            HoldAnswered C.Cost.ops s circuit root target
+            (long_enough sites M.Marks.rooms tables.entry
+            && all_fit sites (length one.old ∷ length two.old ∷ []))
+            (as_held s.number circuit result) one.old two.old one.new two.new }
+        ensures does { Does
+            (desk_state N.Network.meaning self.old)
+            (kept circuit root target result one.new two.new)
+            (desk_state N.Network.meaning self.new) }
     {
         let held = self
             .board
@@ -113,7 +139,10 @@ impl<N: Network> Desk<N> {
     /// Confirms a circuit whose hold is in hand, and answers whether it is.
     pub fn confirm(&mut self, circuit: u8) -> bool
         ensures answer { result ≡ is_held ((desk_state N.Network.meaning self.old).rows circuit) }
-        ensures does { Does (desk_state N.Network.meaning self.old) (event (confirm (desk_state N.Network.meaning self.old).number circuit) result) (desk_state N.Network.meaning self.new) }
+        ensures does { Does
+            (desk_state N.Network.meaning self.old)
+            (event (confirm (desk_state N.Network.meaning self.old).number circuit) result)
+            (desk_state N.Network.meaning self.new) }
     {
         let Some(hold) = self.slots.take(circuit) else {
             return false;
@@ -127,7 +156,10 @@ impl<N: Network> Desk<N> {
     /// Withdraws a circuit whose hold is in hand, and answers whether it is.
     pub fn withdraw(&mut self, circuit: u8) -> bool
         ensures answer { result ≡ is_held ((desk_state N.Network.meaning self.old).rows circuit) }
-        ensures does { Does (desk_state N.Network.meaning self.old) (event (withdraw (desk_state N.Network.meaning self.old).number circuit) result) (desk_state N.Network.meaning self.new) }
+        ensures does { Does
+            (desk_state N.Network.meaning self.old)
+            (event (withdraw (desk_state N.Network.meaning self.old).number circuit) result)
+            (desk_state N.Network.meaning self.new) }
     {
         let Some(hold) = self.slots.take(circuit) else {
             return false;
@@ -151,17 +183,24 @@ impl<N: Network> Desk<N> {
         }
     }
 
-    /// Offers the hold of a circuit to the board of another desk, to confirm or to withdraw it, and answers how it is refused. None if no such hold is in hand, or if that board would accept it: then it is not offered. The hold stays in hand.
+    /// Offers the hold of a circuit to the board of another desk, to confirm or to withdraw it, and
+    /// answers how it is refused. None if no such hold is in hand, or if that board would accept
+    /// it: then it is not offered. The hold stays in hand.
     pub fn offer<O: Network>(
         &mut self,
         circuit: u8,
         ending: Ending,
         other: &mut Desk<O>,
     ) -> Option<Refusal>
-        ensures answer { result ≡ offer_answer (desk_state N.Network.meaning self.old) circuit (desk_state O.Network.meaning other.old) }
+        ensures answer { result ≡ offer_answer
+            (desk_state N.Network.meaning self.old) circuit
+            (desk_state O.Network.meaning other.old) }
         ensures own { self.new.board ≡ self.old.board }
         ensures other { other.new.board ≡ other.old.board }
-        ensures does { IfSome result (λ _. Does (desk_state O.Network.meaning other.old) (event (ending_call ending (desk_state N.Network.meaning self.old).number circuit) false) (desk_state O.Network.meaning other.new)) }
+        ensures does { IfSome result (λ _. Does
+            (desk_state O.Network.meaning other.old)
+            (event (ending_call ending (desk_state N.Network.meaning self.old).number circuit) false)
+            (desk_state O.Network.meaning other.new)) }
     {
         if other.accepts(self.board.number(), circuit) {
             return None;
@@ -182,10 +221,14 @@ impl<N: Network> Desk<N> {
         }
     }
 
-    /// Ends the desk: withdraws every hold in hand, the highest circuit first, and answers the board.
+    /// Ends the desk: withdraws every hold in hand, the highest circuit first, and answers the
+    /// board.
     pub fn end(self) -> Board<N>
-        ensures does { DoesAll (desk_state N.Network.meaning self) (withdrawals (desk_state N.Network.meaning self).number (held_circuits (desk_state N.Network.meaning self).rows)) (state N.Network.meaning result) }
-        ensures rows { (c : ℕ) → (state N.Network.meaning result).rows c ≡ cond (is_held ((desk_state N.Network.meaning self).rows c)) vacant ((desk_state N.Network.meaning self).rows c) }
+        ensures does { let s = desk_state N.Network.meaning self in
+            DoesAll s (withdrawals s.number (held_circuits s.rows)) (state N.Network.meaning result) }
+        ensures rows { let s = desk_state N.Network.meaning self in
+            (c : ℕ) → (state N.Network.meaning result).rows c
+            ≡ cond (is_held (s.rows c)) vacant (s.rows c) }
     {
         let Desk { mut board, slots } = self;
         let Slots { mut list } = slots;

@@ -32,7 +32,8 @@ impl Slots {
     pub(crate) fn put(&mut self, circuit: u8, hold: Hold)
         requires circuit { circuit_sound circuit ≡ true }
         requires free { hand self.old.list.items circuit ≡ None }
-        ensures { (c : ℕ) → hand self.new.list.items c ≡ with_slot circuit (Some hold) (hand self.old.list.items) c }
+        ensures { (c : ℕ) → hand self.new.list.items c
+            ≡ with_slot circuit (Some hold) (hand self.old.list.items) c }
     {
         let slot = &mut self.list[usize::from(circuit) - 1];
         match mem::replace(slot, Some(hold)) {
@@ -44,7 +45,8 @@ impl Slots {
     // Takes the hold out of the slot of a circuit, if there is one.
     pub(crate) fn take(&mut self, circuit: u8) -> Option<Hold>
         ensures out { result ≡ hand self.old.list.items circuit }
-        ensures after { (c : ℕ) → hand self.new.list.items c ≡ with_slot circuit None (hand self.old.list.items) c }
+        ensures after { (c : ℕ) → hand self.new.list.items c
+            ≡ with_slot circuit None (hand self.old.list.items) c }
     {
         let place = usize::from(circuit).checked_sub(1)?;
         if place < self.list.len() {
