@@ -23,7 +23,7 @@ use Rattle.ledger.specs.declared.refusing.LedgerRefusal.{LedgerRefusal}
 use Rattle.ledger.specs.declared.refusing.LedgerRefusal.TheVariants.{NotCircuit, WrongRow, EightHeld}
 use Rattle.registers.specs.States.{State, shown}
 use Rattle.registers.specs.Histories.{Free, Holds}
-use Rattle.boards.specs.Settling.{Holdable, Settleable}
+use Rattle.boards.specs.Settling.{Settleable}
 
 -- what a pile shows of a sound network is sound
 pub piled_sound : (closed : ℕ → Bool) (amounts : ℕ → ℕ) (n : Net) → Sound n → Sound (piled closed amounts n)
@@ -61,7 +61,8 @@ pair_free k n root target one two pair =
 
 -- what a quote that was answered gives a hold
 pub record Answered (n : Net) (circuit root target count_one count_two : ℕ) (one two : List ℕ) : Type 0 where
-  pub counts : Holdable n.sites n.sites count_one count_two one two
+  pub first_table : count_one ≤ length one
+  pub second_table : count_two ≤ length two
   pub free : Free n (take count_one one) (take count_two two)
   pub limits : within (pair_fields n circuit root target (take count_one one) (take count_two two)) ≡ true
 
@@ -75,7 +76,8 @@ answered k n sound circuit root target circuit_is room q one two one_after two_a
     let few_two : min q.two (length two_after) < n.sites = subst (λ m. m < n.sites) (length-take q.two two_after) short.1.few in
     let ends = two_apart n.sites root target quoted.0.sites_stand in
     record {
-      counts = record { first_room = omega (arith, few_one, fits.0); second_room = omega (arith, few_two, fits.1); first_table = omega (arith, few_one, fits.0); second_table = omega (arith, few_two, fits.1) };
+      first_table = omega (arith, few_one, fits.0);
+      second_table = omega (arith, few_two, fits.1);
       free = pair_free k n root target (take q.one one_after) (take q.two two_after) pair;
       limits = pairs_are_within k n sound circuit root target circuit_is ends.0 ends.1 ends.2 (take q.one one_after) (take q.two two_after) pair short.0 short.1;
     }
@@ -103,7 +105,7 @@ holds_so s circuit one two answer free =
 pub can_be_held : (s : State) (circuit : ℕ) → hold_answer s.rows circuit ≡ Ok tt → circuit_sound circuit ≡ true
 can_be_held s circuit answer = (answered_circuit (circuit_sound circuit) (is_vacant (s.rows circuit)) (nat_lt (held_rows s.rows) 8) answer).0
 
--- the pair that a quote answered, copied, can be settled
+-- the pair that a quote answered can be settled
 pub settleable : (s : State) (circuit root target count_one count_two : ℕ) (one two first second : List ℕ) → hold_answer s.rows circuit ≡ Ok tt → Answered (shown s) circuit root target count_one count_two one two → first ≡ take count_one one → second ≡ take count_two two → Settleable s circuit root target first second
 settleable s circuit root target count_one count_two one two first second row is p q =
     record {
@@ -117,3 +119,11 @@ pub long_tables : (sites : ℕ) (working : Bool) (one two one_after two_after : 
 long_tables sites working one two one_after two_after same_one same_two h =
     let tables : (sites ≤ length one) × (sites ≤ length two) = (search (rules, tests), search (rules, tests)) in
     (omega (arith, tables.0, same_one), omega (arith, tables.1, same_two))
+
+-- so it is with a quote over what a board shows, for a circuit that can be held
+pub quoted_pair : {C : Type 0} (k : Ops C) (s : State) → Sound s.bottom → (circuit root target : ℕ) → hold_answer s.rows circuit ≡ Ok tt → (working : Bool) (q : Quote C) (one two one_after two_after : List ℕ) → length one_after ≡ length one → length two_after ≡ length two → Quoted k (shown s) root target (working && all_fit (shown s).sites (length one ∷ length two ∷ [])) (Ok q) one two one_after two_after → Answered (shown s) circuit root target q.one q.two one_after two_after
+quoted_pair k s sound circuit root target row working q one two one_after two_after same_one same_two quoted =
+    answered k (shown s) (piled_sound s.closed s.amounts s.bottom sound) circuit root target (can_be_held s circuit row)
+    (working && all_fit (shown s).sites (length one ∷ length two ∷ [])) q one two one_after two_after
+    (λ h. long_tables (shown s).sites working one two one_after two_after same_one same_two h)
+    quoted

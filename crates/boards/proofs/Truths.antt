@@ -37,7 +37,6 @@ module _ {C : Type 0} (k : Ops C) (n : Net) where
 pub true_hold : {C : Type 0} (k : Ops C) (number : ℕ) (r : Register) (circuit root target : ℕ) (room : Bool) (answer : Result Held HoldRefusal) (one two one_after two_after : List ℕ) → HoldAnswered k (told_by number r) circuit root target room answer one two one_after two_after → TrueHold k r circuit root target room answer one_after two_after
 true_hold k number r circuit root target room (Err (not_held.Ledger why)) one two one_after two_after h = h.0
 true_hold k number r circuit root target room (Err (not_held.Planner why)) one two one_after two_after h = (h.0, true_quote k (links r) root target room (Err why) one two one_after two_after h.1)
-true_hold k number r circuit root target room (Err not_held.Memory) one two one_after two_after h = h.0
 true_hold {C = C} k number r circuit root target room (Ok held) one two one_after two_after h =
     let quoted = h.1 in
     let answered = true_quote k (links r) root target room (Ok (record { one = held.one; two = held.two; total = quoted.0 })) one two one_after two_after quoted.1 in

@@ -30,11 +30,10 @@ pub record Does (s : State) (e : Event) (t : State) : Type 0 where
   pub history : (number : ℕ) (given : Net) (events : List Event) → Came number given events s → Came number given (e ∷ events) t
   pub agreement : (number : ℕ) (given : Net) (events : List Event) → Agrees number given events s → Agrees number given (e ∷ events) t
 
--- what a hold answers: a refusal of the ledger, then of the planner, or want of memory, leaves both route tables as they were; else the pair is that of the planner's quote, and the hold is of this board and this circuit
+-- what a hold answers: the ledger's refusal; else the planner's; either leaves both route tables as they were; else the pair is that of the planner's quote, and the hold is of this board and this circuit
 abbrev pub HoldAnswered : {C : Type 0} → Ops C → State → ℕ → ℕ → ℕ → Bool → Result Held HoldRefusal → List ℕ → List ℕ → List ℕ → List ℕ → Type 0
 HoldAnswered k s circuit root target room (Err (not_held.Ledger why)) one two one_after two_after = (hold_answer s.rows circuit ≡ Err why) × Unchanged one two one_after two_after
 HoldAnswered k s circuit root target room (Err (not_held.Planner why)) one two one_after two_after = (hold_answer s.rows circuit ≡ Ok tt) × Quoted k (shown s) root target room (Err why) one two one_after two_after
-HoldAnswered k s circuit root target room (Err not_held.Memory) one two one_after two_after = (hold_answer s.rows circuit ≡ Ok tt) × Unchanged one two one_after two_after
 HoldAnswered {C = C} k s circuit root target room (Ok h) one two one_after two_after =
     (hold_answer s.rows circuit ≡ Ok tt)
     × ((total : C) × Quoted k (shown s) root target room (Ok (record { one = h.one; two = h.two; total = total })) one two one_after two_after)

@@ -57,7 +57,6 @@ TrueHold {C = C} k r circuit root target room (Ok h) one two =
     × ((total : C) × Right k (view k (links r)) root target (pair (take h.one one) (take h.two two) total))
 TrueHold k r circuit root target room (Err (not_held.Ledger why)) one two = hold_answer r.circuits circuit ≡ Err why
 TrueHold k r circuit root target room (Err (not_held.Planner why)) one two = (hold_answer r.circuits circuit ≡ Ok tt) × TrueRefusal k (links r) root target room why
-TrueHold k r circuit root target room (Err not_held.Memory) one two = hold_answer r.circuits circuit ≡ Ok tt
 
 -- what is told of a link's channels: those taken are those at the beginning, and one for each circuit that runs over the link; nothing is told where there is no such link
 abbrev pub TrueChannels : Net → List Event → ℕ → Result (ℕ × ℕ) NetworkRefusal → Type 0

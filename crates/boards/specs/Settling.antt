@@ -1,18 +1,11 @@
 -- What a quote that was answered gives a hold, and what a board makes of it.
-use Rattle.std.specs.Prelude.{◌≡◌, ℕ, ◌≤◌, true, List, length, Ok}
+use Rattle.std.specs.Prelude.{◌≡◌, ℕ, true, List, Ok}
 use Rattle.certificates.specs.Limits.{within}
 use Rattle.pair_certificates.specs.Pairs.{pair_fields}
 use Rattle.ledger.specs.Rows.{hold_answer}
 use Rattle.registers.specs.States.{State, shown}
 use Rattle.registers.specs.Events.{hold, Event}
 use Rattle.registers.specs.Histories.{Free}
-
--- there is room for both routes, and they stand in the route tables
-pub record Holdable (room_one room_two count_one count_two : ℕ) (one two : List ℕ) : Type 0 where
-  pub first_room : count_one ≤ room_one
-  pub second_room : count_two ≤ room_two
-  pub first_table : count_one ≤ length one
-  pub second_table : count_two ≤ length two
 
 -- the circuit can be held, its links can be taken, and its certificate is within the limits
 pub record Settleable (s : State) (circuit root target : ℕ) (one two : List ℕ) : Type 0 where

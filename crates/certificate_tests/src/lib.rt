@@ -5,6 +5,7 @@ ghost use Rattle.std.specs.Prelude.{◌≤◌};
 
 #[cfg(test)]
 mod tests {
+    use arrayvec::{ArrayVec, CapacityError};
     use certificates::certificate::Certificate;
     use certificates::faults::{CertificateFault, CertificateRefusal};
     use certificates::fields::CertificateFields;
@@ -19,26 +20,25 @@ mod tests {
         0, 4, 0, 6, 0,
     ];
 
-    // The number of the refusal that reading some bytes comes to, and the value that comes with it; none for a certificate and for want of memory.
-    fn told(heap: Global, bytes: &[u8]) -> Option<(u8, Carried)> {
-        let fault = read(heap, bytes).err()?;
-        let refusal = Refusal::try_from(fault).ok()?;
+    // The number of the refusal that reading some bytes comes to, and the value that comes with it; none for a certificate.
+    fn told(bytes: &[u8]) -> Option<(u8, Carried)> {
+        let refusal = Refusal::from(read(bytes).err()?);
         Some((refusal.number(), refusal.value()))
     }
 
     // Whether the bytes read as a certificate.
-    fn is_read(heap: Global, bytes: &[u8]) -> bool {
-        read(heap, bytes).is_ok()
+    fn is_read(bytes: &[u8]) -> bool {
+        read(bytes).is_ok()
     }
 
     // Whether the bytes are refused by this rule of the first two, at the place 0.
-    fn is_refused(heap: Global, bytes: &[u8], number: u8) -> bool {
-        told(heap, bytes) == Some((number, Carried::Place(0)))
+    fn is_refused(bytes: &[u8], number: u8) -> bool {
+        told(bytes) == Some((number, Carried::Place(0)))
     }
 
     // Whether a field of the bytes is outside its limits.
-    fn is_outside(heap: Global, bytes: &[u8]) -> bool {
-        told(heap, bytes) == Some((19, Carried::Nothing))
+    fn is_outside(bytes: &[u8]) -> bool {
+        told(bytes) == Some((19, Carried::Nothing))
     }
 
     // The example with two other bytes at a place.
@@ -58,126 +58,123 @@ mod tests {
         bytes
     }
 
-    // So many links from one on.
-    fn links(heap: Global, first: u16, count: u16) -> Result<Vec<u16>, AllocError> {
-        (first..first.wrapping_add(count)).collect(heap)
+    // The example with routes of so many links, of links 0 and 1,000 on.
+    fn counted(heap: Global, one: u16, two: u16) -> Result<Vec<u8>, AllocError> {
+        let length = one.wrapping_add(two).wrapping_mul(2).wrapping_add(18);
+        let mut bytes = Vec::new(heap);
+        bytes.extend_from_slice(&length.to_le_bytes())?;
+        bytes.extend_from_slice(&EXAMPLE[2..18])?;
+        bytes.extend_from_slice(&one.to_le_bytes())?;
+        bytes.extend_from_slice(&two.to_le_bytes())?;
+        for link in 0..one {
+            bytes.extend_from_slice(&link.to_le_bytes())?;
+        }
+        for link in 1000..two.wrapping_add(1000) {
+            bytes.extend_from_slice(&link.to_le_bytes())?;
+        }
+        Ok(bytes)
+    }
+
+    // Whether routes of so many links read as a certificate.
+    fn are_read(heap: Global, one: u16, two: u16) -> Result<bool, AllocError> {
+        Ok(is_read(counted(heap, one, two)?.as_slice()))
+    }
+
+    // Whether routes of so many links are outside the limits.
+    fn are_outside(heap: Global, one: u16, two: u16) -> Result<bool, AllocError> {
+        Ok(is_outside(counted(heap, one, two)?.as_slice()))
     }
 
     // The example's fields with other routes.
-    fn fields(one: Vec<u16>, two: Vec<u16>) -> CertificateFields {
-        CertificateFields {
+    fn fields(one: &[u16], two: &[u16]) -> Result<CertificateFields, CapacityError> {
+        Ok(CertificateFields {
             circuit: 1,
             root: 0,
             target: 5,
             metres: 800,
             poles: 230,
-            one,
-            two,
-        }
-    }
-
-    // The number of the refusal of routes of so many links; none where they make a certificate.
-    fn refused(heap: Global, one: u16, two: u16) -> Result<Option<u8>, AllocError> {
-        let first = links(heap, 0, one)?;
-        let second = links(heap, 1000, two)?;
-        let refusal = Certificate::new(fields(first, second)).err();
-        Ok(refusal.map(|refusal| Refusal::from(refusal).number()))
+            one: ArrayVec::try_from(one)?,
+            two: ArrayVec::try_from(two)?,
+        })
     }
 
     #[test]
     fn truncations(rt: HostRuntime) {
-        let heap = rt.alloc();
         let refused = (0..34)
-            .filter(|cut| is_refused(heap, &EXAMPLE[0..*cut], 1))
+            .filter(|cut| is_refused(&EXAMPLE[0..*cut], 1))
             .count();
         assert_eq!(rt; refused, 34);
-        assert!(rt; is_read(heap, &EXAMPLE));
+        assert!(rt; is_read(&EXAMPLE));
     }
 
     #[test]
     fn shapes(rt: HostRuntime) {
-        let heap = rt.alloc();
         let right = [
             // kind 15
-            is_refused(heap, &altered(2, 15), 2),
+            is_refused(&altered(2, 15), 2),
             // a length two bytes short, and so two bytes after the record
-            is_refused(heap, &altered(0, 28), 2),
+            is_refused(&altered(0, 28), 2),
             // one link more counted than there are, in each route
-            is_refused(heap, &altered(18, 4), 2),
-            is_refused(heap, &altered(20, 4), 2),
+            is_refused(&altered(18, 4), 2),
+            is_refused(&altered(20, 4), 2),
             // a payload of 16 bytes
-            is_refused(
-                heap,
-                b"\x10\0\x10\0\x01\0\0\0\x05\0\x20\x03\0\0\0\0\0\0\0\0",
-                2,
-            ),
+            is_refused(b"\x10\0\x10\0\x01\0\0\0\x05\0\x20\x03\0\0\0\0\0\0\0\0", 2),
             // a byte after the record
             is_refused(
-                heap,
                 b"\x16\0\x10\0\x01\0\0\0\x05\0\x20\x03\0\0\0\0\0\0\x01\0\x01\0\0\0\x01\0\0",
                 2,
             ),
             // the same without it
-            is_read(
-                heap,
-                b"\x16\0\x10\0\x01\0\0\0\x05\0\x20\x03\0\0\0\0\0\0\x01\0\x01\0\0\0\x01\0",
-            ),
+            is_read(b"\x16\0\x10\0\x01\0\0\0\x05\0\x20\x03\0\0\0\0\0\0\x01\0\x01\0\0\0\x01\0"),
             // a length two bytes too long, and the bytes for it
             is_refused(
-                heap,
                 b"\x18\0\x10\0\x01\0\0\0\x05\0\x20\x03\0\0\0\0\0\0\x01\0\x01\0\0\0\x01\0\0\0",
                 2,
             ),
             // counts of 32,768 each, which would wrap to none
             is_refused(
-                heap,
                 b"\x12\0\x10\0\x01\0\0\0\x05\0\x20\x03\0\0\0\0\0\0\0\x80\0\x80",
                 2,
             ),
             // counts of 0, of the right length
-            is_outside(
-                heap,
-                b"\x12\0\x10\0\x01\0\0\0\x05\0\x20\x03\0\0\0\0\0\0\0\0\0\0",
-            ),
+            is_outside(b"\x12\0\x10\0\x01\0\0\0\x05\0\x20\x03\0\0\0\0\0\0\0\0\0\0"),
         ];
         assert_eq!(rt; right, [true; 10]);
     }
 
     #[test]
     fn within_limits(rt: HostRuntime) {
-        let heap = rt.alloc();
         let right = [
-            is_read(heap, &altered(4, 1)),
-            is_read(heap, &altered(4, 32)),
-            is_read(heap, &altered(6, 255)),
-            is_read(heap, &altered(8, 255)),
-            is_read(heap, &measured(2, 2)),
-            is_read(heap, &measured(510_000_000, 510_000_000)),
-            is_read(heap, &measured(800, 0)),
-            is_read(heap, &altered(22, 2047)),
-            is_read(heap, &altered(32, 2047)),
+            is_read(&altered(4, 1)),
+            is_read(&altered(4, 32)),
+            is_read(&altered(6, 255)),
+            is_read(&altered(8, 255)),
+            is_read(&measured(2, 2)),
+            is_read(&measured(510_000_000, 510_000_000)),
+            is_read(&measured(800, 0)),
+            is_read(&altered(22, 2047)),
+            is_read(&altered(32, 2047)),
         ];
         assert_eq!(rt; right, [true; 9]);
     }
 
     #[test]
     fn outside_limits(rt: HostRuntime) {
-        let heap = rt.alloc();
         let right = [
-            is_outside(heap, &altered(4, 0)),
-            is_outside(heap, &altered(4, 33)),
-            is_outside(heap, &altered(6, 256)),
-            is_outside(heap, &altered(8, 256)),
-            is_outside(heap, &altered(8, 0)),
-            is_outside(heap, &measured(1, 0)),
-            is_outside(heap, &measured(510_000_001, 0)),
-            is_outside(heap, &measured(800, 801)),
-            is_outside(heap, &altered(22, 2048)),
-            is_outside(heap, &altered(32, 2048)),
+            is_outside(&altered(4, 0)),
+            is_outside(&altered(4, 33)),
+            is_outside(&altered(6, 256)),
+            is_outside(&altered(8, 256)),
+            is_outside(&altered(8, 0)),
+            is_outside(&measured(1, 0)),
+            is_outside(&measured(510_000_001, 0)),
+            is_outside(&measured(800, 801)),
+            is_outside(&altered(22, 2048)),
+            is_outside(&altered(32, 2048)),
             // a link twice in the first route, in the second, and across the two
-            is_outside(heap, &altered(22, 5)),
-            is_outside(heap, &altered(28, 6)),
-            is_outside(heap, &altered(32, 5)),
+            is_outside(&altered(22, 5)),
+            is_outside(&altered(28, 6)),
+            is_outside(&altered(32, 5)),
         ];
         assert_eq!(rt; right, [true; 13]);
     }
@@ -185,18 +182,32 @@ mod tests {
     #[test]
     fn counts(rt: HostRuntime) -> Result<(), Fail> {
         let heap = rt.alloc();
-        assert_eq!(rt; refused(heap, 1, 255)?, None);
-        assert_eq!(rt; refused(heap, 255, 1)?, None);
-        assert_eq!(rt; refused(heap, 256, 1)?, Some(19));
-        assert_eq!(rt; refused(heap, 1, 256)?, Some(19));
-        assert_eq!(rt; refused(heap, 0, 1)?, Some(19));
-        assert_eq!(rt; refused(heap, 1, 0)?, Some(19));
+        assert!(rt; are_read(heap, 1, 255)?);
+        assert!(rt; are_read(heap, 255, 1)?);
+        assert!(rt; are_read(heap, 255, 255)?);
+        assert!(rt; are_outside(heap, 256, 1)?);
+        assert!(rt; are_outside(heap, 1, 256)?);
+        assert!(rt; are_outside(heap, 0, 1)?);
+        assert!(rt; are_outside(heap, 1, 0)?);
+        Ok(())
+    }
+
+    #[test]
+    fn fields_made(rt: HostRuntime) -> Result<(), Fail> {
+        let certificate = Certificate::new(fields(&[0, 2, 5], &[1, 4, 6])?)?;
+        let mut buffer = [9u8; 34];
+        assert_eq!(rt; certificate.write(&mut buffer)?, 34);
+        assert_eq!(rt; buffer, EXAMPLE);
+        let Err(refusal) = Certificate::new(fields(&[0, 2, 5], &[1, 4, 5])?) else {
+            return Err(Fail::new("a certificate with a link twice"));
+        };
+        assert_eq!(rt; Refusal::from(refusal).number(), 19);
         Ok(())
     }
 
     #[test]
     fn fields_read(rt: HostRuntime) -> Result<(), Fail> {
-        let certificate = read(rt.alloc(), &EXAMPLE)?;
+        let certificate = read(&EXAMPLE)?;
         let numbers = [
             certificate.circuit(),
             certificate.root(),
@@ -211,7 +222,7 @@ mod tests {
 
     #[test]
     fn written_again(rt: HostRuntime) -> Result<(), Fail> {
-        let certificate = read(rt.alloc(), &EXAMPLE)?;
+        let certificate = read(&EXAMPLE)?;
         let mut buffer = [9u8; 36];
         assert_eq!(rt; certificate.write(&mut buffer)?, 34);
         assert_eq!(rt; &buffer[0..34], &EXAMPLE[0..34]);
@@ -221,7 +232,7 @@ mod tests {
 
     #[test]
     fn short_buffer(rt: HostRuntime) -> Result<(), Fail> {
-        let certificate = read(rt.alloc(), &EXAMPLE)?;
+        let certificate = read(&EXAMPLE)?;
         let mut buffer = [9u8; 33];
         let Err(refusal) = certificate.write(&mut buffer) else {
             return Err(Fail::new("a buffer that is too short"));
@@ -239,8 +250,6 @@ mod tests {
             cut_short.as_str(),
             "fewer than 4 bytes are left, or the payload is cut short"
         );
-        let memory = format!(in heap; "{}", CertificateFault::Memory)?;
-        assert_eq!(rt; memory.as_str(), "memory is wanting");
         let too_short = format!(in heap; "{}", CertificateRefusal::BufferTooShort)?;
         assert_eq!(rt;
             too_short.as_str(),

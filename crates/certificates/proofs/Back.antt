@@ -1,5 +1,5 @@
 -- The bytes of a certificate give its fields back.
-use Rattle.std.proofs.Common.{◌≡◌, ℕ, ◌+◌, ◌*◌, ◌<◌, true, false, ltb, List, [], ◌∷◌, ◌++◌, length, drop, sym, ap, ◌∙◌, append-nil, arith}
+use Rattle.std.proofs.Common.{◌≡◌, ℕ, ◌+◌, ◌*◌, ◌<◌, ◌≤◌, true, false, ltb, List, [], ◌∷◌, ◌++◌, length, drop, sym, ap, ◌∙◌, append-nil, arith}
 use Rattle.std.specs.List.{AllByRecursion as All}
 use Rattle.std.proofs.lemmas.List.{length-append, drop-drop, drop_at}
 use Rattle.std.proofs.lemmas.Bool.Decides.{nat_tests}
@@ -72,6 +72,10 @@ module _ (f : Fields) (fits : Fitting f) where
 links_low : (ks : List ℕ) → links_sound ks ≡ true → All (λ k. k < 65536) ks
 links_low [] h = tt
 links_low (k ∷ ks) h = let p = and_parts (ltb k 2048) (links_sound ks) h in (omega (arith, ltb-true k 2048 p.0), links_low ks p.1)
+
+-- routes within the limits have room
+pub few_links : (f : Fields) → within f ≡ true → (length f.one ≤ 255) × (length f.two ≤ 255)
+few_links f h = (grind (arith, nat_tests), grind (arith, nat_tests))
 
 -- fields within the limits fit the format
 pub fitting : (f : Fields) → within f ≡ true → Fitting f

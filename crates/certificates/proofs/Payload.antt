@@ -1,10 +1,12 @@
 -- The fields that a payload writes, from its numbers and the bytes of its routes.
-use Rattle.std.proofs.Common.{◌≡◌, ℕ, ◌+◌, ◌*◌, ◌/◌, ◌<◌, true, List, length, get_or, take, drop, ap, ◌∙◌, arith}
+use Rattle.std.proofs.Common.{◌≡◌, ℕ, ◌+◌, ◌*◌, ◌/◌, ◌<◌, true, false, List, length, get_or, take, drop, inl, inr, ap, ◌∙◌, arith}
 use Rattle.std.proofs.lemmas.List.{get_or-take, drop-drop, length-drop}
-use Rattle.std.proofs.lemmas.Bool.{and_from, eq-eqb, le-leb}
+use Rattle.std.proofs.lemmas.Bool.{and_from, eq-eqb, le-leb, cases_Bool}
 use Rattle.records.specs.Bytes.{u16_at, u32_at}
 use Rattle.certificates.specs.Format.{Fields, count_one, count_two, links_in, fields_in, right_length}
-use Rattle.certificates.proofs.Routes.{links_front, links_whole}
+use Rattle.certificates.specs.Limits.{within}
+use Rattle.certificates.proofs.Back.{few_links}
+use Rattle.certificates.proofs.Routes.{length_links, links_front, links_whole}
 
 module _ (p numbers routes : List ℕ) (front : numbers ≡ take 18 p) (back : routes ≡ drop 18 p) (least : length routes + 18 ≡ length p) (sizes : length routes ≡ 2 * u16_at numbers 14 + 2 * u16_at numbers 16) where
   byte : (i : ℕ) → i < 18 → get_or numbers i 0 ≡ get_or p i 0
@@ -46,3 +48,16 @@ module _ (p numbers routes : List ℕ) (front : numbers ≡ take 18 p) (back : r
     one = (m ∙ first one e) k;
     two = (n ∙ second two g) k;
   }
+
+  -- a payload that counts more than 255 links for a route writes fields outside the limits
+  pub many_one : 255 < u16_at numbers 14 → within (fields_in p) ≡ false
+  many_one many = elim (cases_Bool (within (fields_in p))) [
+    | inl law ↦ absurd (omega (arith, many, size_one, (few_links (fields_in p) law).0, length_links (count_one p) (drop 18 p)))
+    | inr outside ↦ outside
+  ]
+
+  pub many_two : 255 < u16_at numbers 16 → within (fields_in p) ≡ false
+  many_two many = elim (cases_Bool (within (fields_in p))) [
+    | inl law ↦ absurd (omega (arith, many, size_two, (few_links (fields_in p) law).1, length_links (count_two p) (drop (18 + 2 * count_one p) p)))
+    | inr outside ↦ outside
+  ]

@@ -1,7 +1,6 @@
 -- What making, writing and reading a certificate give.
 use Rattle.std.specs.Prelude.{◌≡◌, ℕ, ◌<◌, true, false, List, length, take, drop, Ok, Err, Result}
-use Rattle.records.specs.Bytes.{cut_short}
-use Rattle.certificates.specs.Format.{Fields, certificate_bytes, fields_in, right_length, right_shape}
+use Rattle.certificates.specs.Format.{Fields, certificate_bytes, fields_in, right_length}
 use Rattle.certificates.specs.Limits.{within}
 use Rattle.certificates.specs.Meaning.{whole_record, certificate_shape, field_limits, certificate, fault, Means}
 use Rattle.certificates.specs.Certificates.{fields_of}
@@ -33,26 +32,21 @@ abbrev pub Only : Fields → Result ℕ CertificateRefusal → List ℕ → Type
 Only f (Ok count) after = (g : Fields) → within g ≡ true → take count after ≡ certificate_bytes g → g ≡ f
 Only f (Err e) after = Unit {0}
 
--- What reading a payload gives: the fields that it writes, or that its length is wrong; where memory is wanting, the length is right.
+-- What reading a payload gives: the fields that it writes; or its length is wrong; or the length is right, and a field is outside its limits.
 abbrev pub ReadsFields : List ℕ → Result CertificateFields CertificateFault → Type 0
 ReadsFields payload (Ok f) = (right_length payload ≡ true) × (fields_of f ≡ fields_in payload)
 ReadsFields payload (Err (its.CutShort place)) = ⊥
 ReadsFields payload (Err (its.WrongShape place)) = (right_length payload ≡ false) × (place ≡ 0)
-ReadsFields payload (Err its.OutsideLimits) = ⊥
-ReadsFields payload (Err its.Memory) = right_length payload ≡ true
+ReadsFields payload (Err its.OutsideLimits) = (right_length payload ≡ true) × (within (fields_in payload) ≡ false)
 
--- What reading gives: the certificate that the bytes mean, or the fault that they mean, at the record's place; where memory is wanting, the record is whole and of the right shape.
+-- What reading gives: the certificate that the bytes mean, or the fault that they mean, at the record's place.
 abbrev pub Reads : List ℕ → Result Certificate CertificateFault → Type 0
 Reads bytes (Ok c) = Means bytes (certificate (held c))
 Reads bytes (Err (its.CutShort place)) = Means bytes (fault whole_record) × (place ≡ 0)
 Reads bytes (Err (its.WrongShape place)) = Means bytes (fault certificate_shape) × (place ≡ 0)
 Reads bytes (Err its.OutsideLimits) = Means bytes (fault field_limits)
-Reads bytes (Err its.Memory) = (cut_short bytes ≡ false) × (right_shape bytes ≡ true)
 
--- What reading the writing of fields gives: those fields, unless memory is wanting.
+-- What reading the writing of fields gives: those fields.
 abbrev pub Gives : Fields → Result Certificate CertificateFault → Type 0
 Gives f (Ok c) = held c ≡ f
-Gives f (Err (its.CutShort place)) = ⊥
-Gives f (Err (its.WrongShape place)) = ⊥
-Gives f (Err its.OutsideLimits) = ⊥
-Gives f (Err its.Memory) = Unit {0}
+Gives f (Err why) = ⊥

@@ -1,22 +1,18 @@
 //! What is refused of a certificate, and why bytes are none.
 ghost use Rattle.std.specs.Prelude.{◌≡◌, Some};
-ghost use Rattle.std.specs.Option.{ok_or};
 ghost use Rattle.refusals.specs.Numbers.{rule};
-ghost use Rattle.certificates.specs.declared.faults.CertificateFault.TheVariants.{Memory};
-ghost use Rattle.certificates.specs.Faults.{fault_refusal, fault_words, certificate_refusal};
+ghost use Rattle.certificates.specs.Faults.{fault_refusal, certificate_refusal};
 
-use refusals::{Refusal, Unlisted};
-use std::alloc::AllocError;
+use refusals::Refusal;
 use std::error::Error;
 use std::fmt;
 
-/// Why bytes are no certificate: a broken rule, with the record's place where there is one, or want of memory.
+/// Why bytes are no certificate: a broken rule, with the record's place where there is one.
 #[derive(Clone, Copy, PartialEq, Eq, Debug)]
 pub enum CertificateFault {
     CutShort { place: usize },
     WrongShape { place: usize },
     OutsideLimits,
-    Memory,
 }
 
 /// Why a certificate is not made or not written.
@@ -26,18 +22,15 @@ pub enum CertificateRefusal {
     OutsideLimits,
 }
 
-/// Its place in the list of all refusals; want of memory has none.
-impl TryFrom<CertificateFault> for Refusal {
-    type Error = Unlisted;
+/// Its place in the list of all refusals.
+impl From<CertificateFault> for Refusal {
+    ghost from_gives = { λ fault r. r ≡ fault_refusal fault };
 
-    ghost try_from_gives = { λ fault r. r ≡ ok_or (fault_refusal fault) (record {}) };
-
-    fn try_from(fault: CertificateFault) -> Result<Refusal, Unlisted> {
+    fn from(fault: CertificateFault) -> Refusal {
         match fault {
-            CertificateFault::CutShort { place } => Ok(Refusal::CutShort { place }),
-            CertificateFault::WrongShape { place } => Ok(Refusal::WrongShape { place }),
-            CertificateFault::OutsideLimits => Ok(Refusal::FieldOutsideLimits),
-            CertificateFault::Memory => Err(Unlisted),
+            CertificateFault::CutShort { place } => Refusal::CutShort { place },
+            CertificateFault::WrongShape { place } => Refusal::WrongShape { place },
+            CertificateFault::OutsideLimits => Refusal::FieldOutsideLimits,
         }
     }
 }
@@ -54,23 +47,12 @@ impl From<CertificateRefusal> for Refusal {
     }
 }
 
-impl From<AllocError> for CertificateFault {
-    ghost from_gives = { λ _ r. r ≡ Memory };
-
-    fn from(_: AllocError) -> Self {
-        Self::Memory
-    }
-}
-
 // An `impl` for each enum: one for whatever converts to a refusal would be one for types of other crates too.
 impl fmt::Display for CertificateFault {
-    ghost output = { λ fault. Some (fault_words fault) };
+    ghost output = { λ fault. Some (rule (fault_refusal fault)) };
 
     fn fmt<W: fmt::Write>(&self, f: &mut fmt::Formatter<W>) -> fmt::Result {
-        match Refusal::try_from(*self) {
-            Ok(refusal) => f.write_str(refusal.rule()),
-            Err(Unlisted) => f.write_str("memory is wanting"),
-        }
+        f.write_str(Refusal::from(*self).rule())
     }
 }
 

@@ -6,14 +6,14 @@ ghost use Rattle.certificates.specs.Certificates.{fields_of};
 
 use crate::fields::CertificateFields;
 
-// The highest number of a circuit.
-const LAST_CIRCUIT: u16 = 32;
+/// The highest number of a circuit, and so the number of circuits.
+pub const LAST_CIRCUIT: u8 = 32;
+/// The most links of one route.
+pub const MOST_LINKS: usize = 255;
 // The number of sites.
 const SITES: u16 = 256;
 // The most metres of two routes.
 const MOST_METRES: u32 = 510_000_000;
-// The most links of one route.
-const MOST_LINKS: usize = 255;
 // The number of links.
 const LINKS: u16 = 2048;
 
@@ -21,7 +21,7 @@ const LINKS: u16 = 2048;
 fn is_circuit(circuit: u16) -> bool
     ensures { result ≡ circuit_sound circuit }
 {
-    1 <= circuit && circuit <= LAST_CIRCUIT
+    1 <= circuit && circuit <= u16::from(LAST_CIRCUIT)
 }
 
 // Whether these are two different sites.

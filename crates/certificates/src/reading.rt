@@ -1,5 +1,5 @@
 //! Reading a certificate from bytes.
-ghost use Rattle.std.specs.Prelude.{◌≡◌, ◌/◌, true, length, IfOk};
+ghost use Rattle.std.specs.Prelude.{◌≡◌, ◌/◌, ◌≤◌, true, length};
 ghost use Rattle.certificates.specs.Format.{Fields, certificate_bytes, links_in};
 ghost use Rattle.certificates.specs.Limits.{within};
 ghost use Rattle.certificates.specs.Calls.{ReadsFields, Reads, Gives};
@@ -8,36 +8,43 @@ use crate::certificate::Certificate;
 use crate::faults::CertificateFault;
 use crate::fields::CertificateFields;
 use crate::layout::{KIND, NUMBERS};
+use crate::limits::MOST_LINKS;
+use arrayvec::ArrayVec;
 use records::first_record;
-use std::alloc::{AllocError, Global};
 
 // The links that the bytes of a route write, two bytes each and the low byte first.
-fn read_links(heap: Global, bytes: &[u8]) -> Result<Vec<u16>, AllocError>
-    ensures { IfOk result (λ v. v.items ≡ links_in (length bytes.now / 2) bytes.now) }
+// A route has room for 255 of them.
+fn read_links(bytes: &[u8]) -> ArrayVec<u16, 255>
+    requires { length bytes.now ≤ 510 }
+    ensures { result.items ≡ links_in (length bytes.now / 2) bytes.now }
 {
-    let mut links = Vec::new(heap);
+    let mut links = ArrayVec::new();
     for pair in bytes.chunks_exact(2) {
-        links.push(u16::from_le_bytes([pair[0], pair[1]]))?;
+        links.push(u16::from_le_bytes([pair[0], pair[1]]));
     }
-    Ok(links)
+    links
 }
 
-// The fields that a payload writes; a payload of the wrong length is refused.
-fn read_fields(heap: Global, payload: &[u8]) -> Result<CertificateFields, CertificateFault>
+// The fields that a payload writes. A payload of the wrong length is refused, and then one that
+// counts more links than a route has.
+fn read_fields(payload: &[u8]) -> Result<CertificateFields, CertificateFault>
     ensures { ReadsFields payload.now result }
 {
     let Some((numbers, routes)) = payload.split_first_chunk::<NUMBERS>() else {
         return Err(CertificateFault::WrongShape { place: 0 });
     };
     let [a, b, c, d, e, f, g, h, i, j, k, l, m, n, o, p, q, r] = *numbers;
-    let size_one = 2 * usize::from(u16::from_le_bytes([o, p]));
-    let size_two = 2 * usize::from(u16::from_le_bytes([q, r]));
-    if routes.len() != size_one + size_two {
+    let count_one = usize::from(u16::from_le_bytes([o, p]));
+    let count_two = usize::from(u16::from_le_bytes([q, r]));
+    if routes.len() != 2 * count_one + 2 * count_two {
         return Err(CertificateFault::WrongShape { place: 0 });
     }
-    let (one, two) = routes.split_at(size_one);
-    let one = read_links(heap, one)?;
-    let two = read_links(heap, two)?;
+    if MOST_LINKS < count_one || MOST_LINKS < count_two {
+        return Err(CertificateFault::OutsideLimits);
+    }
+    let (one, two) = routes.split_at(2 * count_one);
+    let one = read_links(one);
+    let two = read_links(two);
     Ok(CertificateFields {
         circuit: u16::from_le_bytes([a, b]),
         root: u16::from_le_bytes([c, d]),
@@ -50,7 +57,7 @@ fn read_fields(heap: Global, payload: &[u8]) -> Result<CertificateFields, Certif
 }
 
 // The certificate that bytes write, or the first rule that they break.
-fn read_record(heap: Global, bytes: &[u8]) -> Result<Certificate, CertificateFault>
+fn read_record(bytes: &[u8]) -> Result<Certificate, CertificateFault>
     ensures { Reads bytes.now result }
 {
     let Some(head) = first_record(bytes) else {
@@ -59,15 +66,15 @@ fn read_record(heap: Global, bytes: &[u8]) -> Result<Certificate, CertificateFau
     if head.kind != KIND || !head.rest.is_empty() {
         return Err(CertificateFault::WrongShape { place: 0 });
     }
-    let fields = read_fields(heap, head.payload)?;
+    let fields = read_fields(head.payload)?;
     Certificate::new(fields).map_err(|_| CertificateFault::OutsideLimits)
 }
 
 /// The certificate that bytes write, or why they are none.
 #[tactic(auto, using(crate::proofs::Gives::gives))]
-pub fn read(heap: Global, bytes: &[u8]) -> Result<Certificate, CertificateFault>
+pub fn read(bytes: &[u8]) -> Result<Certificate, CertificateFault>
     ensures means { Reads bytes.now result }
     ensures back { (f : Fields) → within f ≡ true → bytes.now ≡ certificate_bytes f → Gives f result }
 {
-    read_record(heap, bytes)
+    read_record(bytes)
 }

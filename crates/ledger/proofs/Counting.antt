@@ -1,28 +1,14 @@
--- Rows that are all vacant, and how many rows are held.
-use Rattle.std.proofs.Common.{◌≡◌, ℕ, zero, suc, ◌+◌, ◌-◌, ◌≤◌, ◌<◌, cond, length, get_or, take, refl, sym, ap, ◌∙◌, inl, inr, arith, add-one}
-use Rattle.std.proofs.Math.ListN.{replicate}
+-- How many rows are held.
+use Rattle.std.proofs.Common.{◌≡◌, ℕ, zero, suc, ◌+◌, ◌-◌, ◌≤◌, ◌<◌, cond, length, get_or, take, refl, sym, ap, ◌∙◌, arith, add-one}
 use Rattle.std.specs.List.{sum_by, count_by}
-use Rattle.std.proofs.lemmas.Bool.{cases_Bool, cond-true, cond-false}
+use Rattle.std.proofs.lemmas.Bool.{cond-true}
 use Rattle.std.proofs.lemmas.List.{take_all}
 use Rattle.std.proofs.lemmas.List.Sums.{sum_by_more}
-use Rattle.certificates.specs.Limits.{circuit_sound}
-use Rattle.ledger.specs.Rows.{vacant, entry_of, entries, is_held, summed, over_circuits, held_rows}
+use Rattle.ledger.specs.Rows.{entry_of, entries, is_held, summed, over_circuits, held_rows}
 use Rattle.ledger.specs.declared.row.Row.{Row}
 use Rattle.ledger.specs.declared.row.Row.TheVariants.{Vacant}
 use Rattle.ledger.specs.declared.rows.Rows.{Rows}
 use Rattle.ledger.proofs.Sums.{is_sound}
-
-vacant_anywhere : (n i : ℕ) → get_or (replicate n Vacant) i Vacant ≡ Vacant
-vacant_anywhere zero i = refl
-vacant_anywhere (suc n) zero = refl
-vacant_anywhere (suc n) (suc i) = vacant_anywhere n i
-
--- rows that are all vacant
-pub all_vacant : (d : ℕ) → entries (record { list = replicate 32 Vacant }) d ≡ vacant
-all_vacant d = elim (cases_Bool (circuit_sound d)) [
-  | inl sound ↦ cond-true _ _ _ sound ∙ ap entry_of (vacant_anywhere 32 (d - 1))
-  | inr unsound ↦ cond-false _ _ _ unsound
-]
 
 -- 1 for a row that is held, and 0 for any other
 abbrev held_in : Row → ℕ

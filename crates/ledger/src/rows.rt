@@ -7,11 +7,8 @@ ghost use Rattle.ledger.specs.Lending.{HandedOut, IsRow};
 
 use crate::row::Row;
 use certificates::certificate::Certificate;
-
-// The number of circuits.
-const CIRCUITS: usize = 32;
-// A row with nothing in it: a constant, since rows are not copied.
-const VACANT: Row = Row::Vacant;
+use certificates::limits::LAST_CIRCUIT;
+use std::array;
 
 /// The rows of all circuits, the row of circuit 1 first.
 #[derive(Drop)]
@@ -24,7 +21,11 @@ fn place_of(circuit: u8) -> Option<usize>
     ensures { result ≡ cond (circuit_sound circuit) (Some (circuit - 1)) None }
 {
     let place = usize::from(circuit).checked_sub(1)?;
-    if place < CIRCUITS { Some(place) } else { None }
+    if place < usize::from(LAST_CIRCUIT) {
+        Some(place)
+    } else {
+        None
+    }
 }
 
 impl Rows {
@@ -32,7 +33,9 @@ impl Rows {
     pub(crate) fn empty() -> Rows
         ensures { (d : ℕ) → entries result d ≡ vacant }
     {
-        Rows { list: [VACANT; 32] }
+        Rows {
+            list: array::from_fn(|_| Row::Vacant),
+        }
     }
 
     /// The row of a circuit, if this is a circuit's number.

@@ -1,8 +1,7 @@
-use Rattle.std.proofs.Common.{◌≡◌, cond, ◌++◌, is_ok, vec_items, refl, ap, ◌∙◌}
+use Rattle.std.proofs.Common.{◌≡◌, cond, is_ok, refl, ap, ◌∙◌}
 use Rattle.layers.specs.Shown.{is_closed, amount_on}
 use Rattle.certificates.specs.Calls.{held as fields_held}
 use Rattle.pair_certificates.specs.Pairs.{pair_fields}
-use Rattle.route_links.specs.Along.{taken_along}
 use Rattle.ledger.specs.Rows.{entered, held}
 use Rattle.ledger.specs.Keeping.{rows_in}
 use Rattle.registers.specs.States.{shown}
@@ -16,8 +15,8 @@ use Rattle.boards.proofs.board.Board.settle.Goals as goal
 pub returns-clause-does : goal.returns-clause-does
 returns-clause-does g c =
     let old = state g.N.Network.meaning c.args.self.now in
-    let one = vec_items c.args.routes.one in
-    let two = vec_items c.args.routes.two in
+    let one = c.args.one.now in
+    let two = c.args.two.now in
     let certificate = c.unwrap-certificate.result in
     let made : fields_held certificate ≡ pair_fields (shown old) c.args.circuit c.args.root c.args.target one two =
     made_fields (pair_fields (shown old) c.into.result c.args.root c.args.target one two) c.certify.result certificate c.unwrap-certificate.ensures c.certify.ensures
@@ -26,7 +25,7 @@ returns-clause-does g c =
     (same _ (holding c.args.circuit c.args.root c.args.target one two old)
     (record {
       number = refl;
-      bottom = c.take_pair.ensures.taken ∙ (λ x. taken_along ((c.one.ensures ∙ ap (λ h. h.one) made) x ++ (c.two.ensures ∙ ap (λ h. h.two) made) x) (g.N.Network.meaning c.args.self.now.pile.below.below));
+      bottom = c.take_pair.ensures.taken;
       closed = λ k. ap (λ x. is_closed x k) c.take_pair.ensures.closings;
       amounts = λ k. ap (λ x. amount_on x k) c.take_pair.ensures.surcharges;
       rows = λ d.
