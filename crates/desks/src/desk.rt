@@ -109,7 +109,6 @@ impl<N: Network> Desk<N> {
     /// has.
     pub fn hold<C: Cost + Copy, M: Marks>(
         &mut self,
-        heap: Global,
         circuit: u8,
         root: u16,
         target: u16,
@@ -128,9 +127,7 @@ impl<N: Network> Desk<N> {
             (kept circuit root target result one.new two.new)
             (desk_state N.Network.meaning self.new) }
     {
-        let held = self
-            .board
-            .hold(heap, circuit, root, target, tables, one, two)?;
+        let held = self.board.hold(circuit, root, target, tables, one, two)?;
         let Held { hold, one, two } = held;
         self.slots.put(circuit, hold);
         Ok((one, two))

@@ -4,11 +4,9 @@ ghost use Rattle.certificates.specs.Limits.{circuit_sound};
 ghost use Rattle.desks.specs.Slots.{hand, with_slot};
 
 use boards::Hold;
+use certificates::limits::LAST_CIRCUIT;
 use std::alloc::{AllocError, Global};
 use std::mem;
-
-// The number of circuits.
-const CIRCUITS: usize = 32;
 
 // The slot of circuit 1 comes first.
 pub(crate) struct Slots {
@@ -21,8 +19,9 @@ impl Slots {
     pub(crate) fn empty(heap: Global) -> Result<Slots, AllocError>
         ensures { IfOk result (λ slots. (c : ℕ) → hand slots.list.items c ≡ None) }
     {
-        let mut list = Vec::with_capacity(heap, CIRCUITS)?;
-        for _ in 0..CIRCUITS {
+        let circuits = usize::from(LAST_CIRCUIT);
+        let mut list = Vec::with_capacity(heap, circuits)?;
+        for _ in 0..circuits {
             list.push_reserved(None);
         }
         Ok(Slots { list })
