@@ -129,7 +129,6 @@ impl<N: Network> Desk<N> {
     /// Holds a circuit, keeps the hold in hand, and answers how many links each of the two routes has.
     pub fn hold<C: Cost + Copy, M: Marks>(
         &mut self,
-        heap: Global,
         circuit: u8,
         root: u16,
         target: u16,
@@ -140,9 +139,7 @@ impl<N: Network> Desk<N> {
         ensures answer { HoldAnswered C.Cost.ops (state N.Network.meaning self.old.board) circuit root target (long_enough (shown (state N.Network.meaning self.old.board)).sites M.Marks.rooms tables.entry && all_fit (shown (state N.Network.meaning self.old.board)).sites (length one.old ∷ length two.old ∷ [])) (as_held self.old.board.number circuit result) one.old two.old one.new two.new }
         ensures does { Does (state N.Network.meaning self.old.board) (kept circuit root target result one.new two.new) (state N.Network.meaning self.new.board) }
     {
-        let held = self
-            .board
-            .hold(heap, circuit, root, target, tables, one, two)?;
+        let held = self.board.hold(circuit, root, target, tables, one, two)?;
         let Held { hold, one, two } = held;
         self.put(circuit, hold);
         Ok((one, two))
