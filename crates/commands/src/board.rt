@@ -5,18 +5,15 @@ use crate::planning::hold_circuit;
 use crate::refused::print_rule;
 use crate::script::{Call, Line};
 use crate::told::print_link;
-use anyhow::anyhow;
 use boards::HoldRefusal;
+use certificates::limits::LAST_CIRCUIT;
 use desks::Desk;
 use networks::network::Network;
-use refusals::{Refusal, Unlisted};
+use refusals::Refusal;
 use sheets::names::Names;
 
 /// The number of the board that the program begins.
 pub const BOARD: u32 = 1;
-
-// The number of the last circuit.
-const CIRCUITS: u8 = 32;
 
 /// Runs a script on a board over a network, and withdraws the holds that are in hand at its end.
 pub fn run_script<N: Network + Drop>(
@@ -57,7 +54,7 @@ fn run_lines<N: Network>(
 
 // Withdraws every hold in hand, and says so. After an error in print some may still be in hand.
 fn withdraw_all<N: Network>(rt: &HostRuntime, desk: &mut Desk<N>) -> anyhow::Result<()> {
-    for circuit in 1..=CIRCUITS {
+    for circuit in 1..=LAST_CIRCUIT {
         if desk.withdraw(circuit) {
             println!(rt; "withdrawn at the end: circuit {circuit}")?;
         }
@@ -85,7 +82,7 @@ fn make<N: Network>(
             target,
             kind,
         } => {
-            let answer = hold_circuit(rt.alloc(), desk, circuit, root, target, kind);
+            let answer = hold_circuit(desk, circuit, root, target, kind);
             print_hold(rt, desk, circuit, answer)
         }
         Call::Confirm { circuit } => {
@@ -123,10 +120,9 @@ fn print_hold<N: Network>(
     circuit: u8,
     answer: Result<(), HoldRefusal>,
 ) -> anyhow::Result<()> {
-    match answer.map_err(Refusal::try_from) {
+    match answer {
         Ok(()) => print_held(rt, desk.board(), circuit),
-        Err(Ok(refusal)) => print_rule(rt, refusal),
-        Err(Err(Unlisted)) => Err(anyhow!("there is no memory to hold a circuit")),
+        Err(refusal) => print_rule(rt, refusal.into()),
     }
 }
 

@@ -6,7 +6,6 @@ use boards::Board;
 use certificates::certificate::Certificate;
 use certificates::reading::read;
 use networks::network::Network;
-use refusals::{Refusal, Unlisted};
 use std::fs;
 
 // The most bytes of a certificate.
@@ -29,12 +28,9 @@ pub fn print_fields(rt: &HostRuntime, certificate: &Certificate) -> anyhow::Resu
 
 /// Prints the fields of the certificate that bytes write, or why they are none.
 pub fn print_certificate(rt: &HostRuntime, bytes: &[u8]) -> anyhow::Result<()> {
-    match read(rt.alloc(), bytes) {
+    match read(bytes) {
         Ok(certificate) => print_fields(rt, &certificate),
-        Err(fault) => match Refusal::try_from(fault) {
-            Ok(refusal) => print_rule(rt, refusal),
-            Err(Unlisted) => Err(anyhow!("there is no memory to read the certificate")),
-        },
+        Err(fault) => print_rule(rt, fault.into()),
     }
 }
 

@@ -3,12 +3,10 @@ use crate::routes::print_links_of;
 use anyhow::anyhow;
 use boards::Board;
 use certificates::certificate::Certificate;
+use certificates::limits::LAST_CIRCUIT;
 use ledger::Row;
 use networks::network::Network;
 use std::fmt;
-
-// The number of the last circuit.
-const CIRCUITS: u8 = 32;
 
 // A circuit that is not vacant: how its row stands, and what its certificate says or will say.
 #[derive(Clone, Copy)]
@@ -51,7 +49,7 @@ impl fmt::Display for Standing<'_> {
 
 /// Prints a line for each circuit that is not vacant.
 pub fn print_circuits<N: Network>(rt: &HostRuntime, board: &Board<N>) -> anyhow::Result<()> {
-    for circuit in 1..=CIRCUITS {
+    for circuit in 1..=LAST_CIRCUIT {
         if let Ok(row) = board.row(circuit) {
             if let Some(standing) = Standing::of(row) {
                 println!(rt; "{standing}")?;

@@ -9,7 +9,6 @@ use marks::{Bytes, Marks};
 use networks::network::Network;
 use planner_tables::{PlannerRefusal, Tables};
 use queue::Entry;
-use std::alloc::Global;
 use surveys::Outcome;
 
 // Lends a call the working tables of a planning by a cost kind. A macro, since a struct of tables that are lent part by part gets no proof, and nor does a function with an array over a cost kind that is its parameter.
@@ -88,7 +87,6 @@ fn survey_in<N: Network, C: Cost + Copy + Into<Total>, M: Marks>(
 
 // Holds a circuit by any cost kind, in lent tables.
 fn hold_in<N: Network, C: Cost + Copy, M: Marks>(
-    heap: Global,
     desk: &mut Desk<N>,
     circuit: u8,
     root: u16,
@@ -97,7 +95,7 @@ fn hold_in<N: Network, C: Cost + Copy, M: Marks>(
 ) -> Result<(), HoldRefusal> {
     let mut one = [0u16; SITES];
     let mut two = [0u16; SITES];
-    desk.hold(heap, circuit, root, target, tables, &mut one, &mut two)?;
+    desk.hold(circuit, root, target, tables, &mut one, &mut two)?;
     Ok(())
 }
 
@@ -140,7 +138,6 @@ fn survey_by<N: Network, M: Marks>(
 
 // Holds a circuit by one of both cost kinds.
 fn hold_by<N: Network, M: Marks>(
-    heap: Global,
     desk: &mut Desk<N>,
     circuit: u8,
     root: u16,
@@ -150,10 +147,10 @@ fn hold_by<N: Network, M: Marks>(
 ) -> Result<(), HoldRefusal> {
     match kind {
         CostKind::Length => {
-            in_tables!(Length, marks, tables => hold_in(heap, desk, circuit, root, target, tables))
+            in_tables!(Length, marks, tables => hold_in(desk, circuit, root, target, tables))
         }
         CostKind::PolesFirst => {
-            in_tables!(PolesFirst, marks, tables => hold_in(heap, desk, circuit, root, target, tables))
+            in_tables!(PolesFirst, marks, tables => hold_in(desk, circuit, root, target, tables))
         }
     }
 }
@@ -181,7 +178,6 @@ pub fn survey_all<N: Network>(
 
 /// Holds a circuit for the least pair of routes from a root to a target; the desk keeps the hold.
 pub fn hold_circuit<N: Network>(
-    heap: Global,
     desk: &mut Desk<N>,
     circuit: u8,
     root: u16,
@@ -190,5 +186,5 @@ pub fn hold_circuit<N: Network>(
 ) -> Result<(), HoldRefusal> {
     let mut bytes = [0u8; SITES];
     let mut marks = Bytes::new(&mut bytes);
-    hold_by(heap, desk, circuit, root, target, kind, &mut marks)
+    hold_by(desk, circuit, root, target, kind, &mut marks)
 }
