@@ -95,7 +95,6 @@ fn is_written(expected: &[u8], before: &[u8], after: &[u8]) -> bool {
 
 // Compares what was written, and what is read again from it.
 fn same_certificate(
-    heap: Global,
     number: u8,
     circuit: &Circuit,
     expected: &[u8],
@@ -108,7 +107,7 @@ fn same_certificate(
     let Some(written) = after.get(..expected.len()) else {
         return Err(Fault::Certificate);
     };
-    match read(heap, written) {
+    match read(written) {
         Ok(certificate) if is_certificate(&certificate, number, circuit) => Ok(()),
         _ => Err(Fault::Certificate),
     }
@@ -143,14 +142,7 @@ pub fn compare_certificate<N: Network>(
     match (expected, answered) {
         (Ok(circuit), Ok(count)) if count == bytes.len() => {
             let before = before.as_slice();
-            same_certificate(
-                heap,
-                number,
-                &circuit,
-                bytes.as_slice(),
-                before,
-                after.as_slice(),
-            )?;
+            same_certificate(number, &circuit, bytes.as_slice(), before, after.as_slice())?;
             tally.add_certificate();
         }
         (Err(_refusal), Err(_other)) if before.as_slice() == after.as_slice() => {}

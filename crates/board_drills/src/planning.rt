@@ -11,7 +11,7 @@ use networks::network::Network;
 use planner_tables::{PlannerRefusal, Tables};
 use queue::Entry;
 use quotes::Quote;
-use refusals::{Refusal, Unlisted};
+use refusals::Refusal;
 use std::alloc::{AllocError, Global};
 use surveys::Outcome;
 
@@ -118,7 +118,7 @@ fn hold_with<N: Network, C: Cost + Copy, M: Marks>(
 ) -> Result<Result<(u16, u16), HoldRefusal>, AllocError> {
     let zero = C::zero();
     let answer =
-        in_tables!(heap, room, zero, marks, tables => desk.hold(heap, circuit, ends.root, ends.target, tables, one, two));
+        in_tables!(heap, room, zero, marks, tables => desk.hold(circuit, ends.root, ends.target, tables, one, two));
     Ok(answer)
 }
 
@@ -182,9 +182,6 @@ pub fn hold<N: Network, C: Known>(
             two,
             total: None,
         })),
-        Err(why) => match Refusal::try_from(why) {
-            Ok(refusal) => Ok(Err(refusal)),
-            Err(Unlisted) => Err(Fault::Memory),
-        },
+        Err(why) => Ok(Err(Refusal::from(why))),
     }
 }
