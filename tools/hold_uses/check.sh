@@ -1,9 +1,9 @@
 #!/bin/sh
-# A hold can be neither copied nor cloned, neither dropped nor made outside the crate of the board: that is the
-# compiler's word. Each text beside this script misuses a hold so. Puts one after the other in the place of the source
-# of crates/hold_uses, in a copy of the repository, and expects the check to refuse it with the error that its first
-# line names, and with no other; that takes no proof. The right uses are crates/hold_uses itself, which is proved with
-# all other crates.
+# A hold can be neither copied nor cloned, neither dropped nor made outside the crate of the board:
+# that is the compiler's word. Each text beside this script misuses a hold so. Puts one after the
+# other in the place of the source of crates/hold_uses, in a copy of the repository, and expects
+# the check to refuse it with the error that its first line names, and with no other; that takes no
+# proof. The right uses are crates/hold_uses itself, which is proved with all other crates.
 set -eu
 here=$(cd "$(dirname "$0")" && pwd)
 top=$(cd "$here/../.." && pwd)
