@@ -27,13 +27,17 @@ take_within zero xs = refl
 take_within (suc n) [] = refl
 take_within (suc n) (x ∷ xs) = ap (λ l. x ∷ l) (take_within n xs)
 
-pub shorter : {A : Type 0} (slots left rest : List A) (m n : ℕ) → left ≡ take m slots → rest ≡ take (m - 1) left → m ≡ suc n → rest ≡ take n slots
+pub shorter :
+    {A : Type 0} (slots left rest : List A) (m n : ℕ) → left ≡ take m slots
+    → rest ≡ take (m - 1) left → m ≡ suc n → rest ≡ take n slots
 shorter slots left rest m n is cut size =
     let place : m - 1 ≡ n = omega (arith, size) in
     cut ∙ (λ i. take (place i) (is i)) ∙ ap (λ k. take n (take k slots)) size ∙ take_within n slots
 
 -- the last slot is that of the next circuit
-pub last : (slots left : List (Option Hold)) (m n : ℕ) (o : Option Hold) → left ≡ take m slots → m ≡ suc n → o ≡ slice_index_or left n None → hand slots (suc n) ≡ o
+pub last :
+    (slots left : List (Option Hold)) (m n : ℕ) (o : Option Hold) → left ≡ take m slots
+    → m ≡ suc n → o ≡ slice_index_or left n None → hand slots (suc n) ≡ o
 last slots left m n o is size out =
     let low : nat_le 1 (suc n) ≡ true = le-leb 1 (suc n) (omega arith) in
     let place : suc n - 1 ≡ n = omega arith in
@@ -42,7 +46,9 @@ last slots left m n o is size out =
     ∙ sym out
 
 -- how many slots are left
-pub below : {A : Type 0} (slots left : List A) (m n : ℕ) → length slots ≡ 32 → left ≡ take m slots → length left ≡ m → m ≡ suc n → n < 32
+pub below :
+    {A : Type 0} (slots left : List A) (m n : ℕ) → length slots ≡ 32 → left ≡ take m slots
+    → length left ≡ m → m ≡ suc n → n < 32
 below slots left m n room is long size = omega (arith, length-take m slots, ap length is)
 
 -- the circuits from the next on
@@ -52,10 +58,14 @@ drop_next n low =
     drop-cons circuits n 0 (omega (arith, length-range_with_len 1 32))
     ∙ ap (λ c. c ∷ drop (suc n) circuits) (at ∙ omega arith)
 
-pub passed : (p : ℕ → Bool) (n : ℕ) → n < 32 → p (suc n) ≡ true → filter p (drop n circuits) ≡ suc n ∷ filter p (drop (suc n) circuits)
+pub passed :
+    (p : ℕ → Bool) (n : ℕ) → n < 32 → p (suc n) ≡ true
+    → filter p (drop n circuits) ≡ suc n ∷ filter p (drop (suc n) circuits)
 passed p n low is = ap (filter p) (drop_next n low) ∙ ap (λ b. cond b (suc n ∷ filter p (drop (suc n) circuits)) (filter p (drop (suc n) circuits))) is
 
-pub left_out : (p : ℕ → Bool) (n : ℕ) → n < 32 → p (suc n) ≡ false → filter p (drop n circuits) ≡ filter p (drop (suc n) circuits)
+pub left_out :
+    (p : ℕ → Bool) (n : ℕ) → n < 32 → p (suc n) ≡ false
+    → filter p (drop n circuits) ≡ filter p (drop (suc n) circuits)
 left_out p n low is = ap (filter p) (drop_next n low) ∙ ap (λ b. cond b (suc n ∷ filter p (drop (suc n) circuits)) (filter p (drop (suc n) circuits))) is
 
 -- the rows, where the held circuits above a number were withdrawn
@@ -76,14 +86,19 @@ past n c other = elim (cases_Bool (nat_lt n c)) [
 pub untouched : (rows now : ℕ → Entry) (n : ℕ) → Above rows (suc n) now → now (suc n) ≡ rows (suc n)
 untouched rows now n above = above (suc n) ∙ ap (λ b. cond (b && is_held (rows (suc n))) vacant (rows (suc n))) (le-ltb (suc n) (suc n) (omega arith))
 
-pub none_next : (rows now : ℕ → Entry) (n : ℕ) → is_held (rows (suc n)) ≡ false → Above rows (suc n) now → Above rows n now
+pub none_next :
+    (rows now : ℕ → Entry) (n : ℕ) → is_held (rows (suc n)) ≡ false → Above rows (suc n) now
+    → Above rows n now
 none_next rows now n not above c = elim (cases_eq c (suc n)) [
   | inl is ↦ let no : is_held (rows c) ≡ false = ap (λ k. is_held (rows k)) is ∙ not in
       above c ∙ idle (nat_lt (suc n) c) (is_held (rows c)) (rows c) no ∙ sym (idle (nat_lt n c) (is_held (rows c)) (rows c) no)
   | inr other ↦ above c ∙ ap (λ b. cond (b && is_held (rows c)) vacant (rows c)) (past n c other)
 ]
 
-held_next : (rows now after : ℕ → Entry) (n : ℕ) → is_held (rows (suc n)) ≡ true → ((c : ℕ) → after c ≡ entered (suc n) vacant now c) → Above rows (suc n) now → Above rows n after
+held_next :
+    (rows now after : ℕ → Entry) (n : ℕ) → is_held (rows (suc n)) ≡ true
+    → ((c : ℕ) → after c ≡ entered (suc n) vacant now c) → Above rows (suc n) now
+    → Above rows n after
 held_next rows now after n held told above c = elim (cases_eq c (suc n)) [
   | inl is ↦ let yes : is_held (rows c) ≡ true = ap (λ k. is_held (rows k)) is ∙ held in
       let low : nat_lt n c ≡ true = lt-ltb n c (omega (arith, is)) in
@@ -113,7 +128,9 @@ module _ (s t u : State) (slots : List (Option Hold)) (n : ℕ) (h : Hold) (ok :
       let p = backed s (hand slots) (suc n) h before here in
       held_next s.rows t.rows u.rows n p.2 (λ c. ap (λ x. x.rows c) made.steps.leaves) above
 
-  pub done_after : DoesAll s (withdrawals s.number (filter (λ c. is_held (s.rows c)) (drop (suc n) circuits))) t → DoesAll s (withdrawals s.number (filter (λ c. is_held (s.rows c)) (drop n circuits))) u
+  pub done_after :
+      DoesAll s (withdrawals s.number (filter (λ c. is_held (s.rows c)) (drop (suc n) circuits))) t
+      → DoesAll s (withdrawals s.number (filter (λ c. is_held (s.rows c)) (drop n circuits))) u
   done_after so_far =
       let p = backed s (hand slots) (suc n) h before here in
       let all : DoesAll s (withdrawals s.number (suc n ∷ filter (λ c. is_held (s.rows c)) (drop (suc n) circuits))) u = (t, so_far, made) in

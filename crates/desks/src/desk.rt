@@ -1,5 +1,5 @@
 //! A desk: a board, with the holds in hand.
-ghost use Rattle.std.specs.Prelude.{◌≡◌, ℕ, ◌&&◌, false, cond, not, [], ◌∷◌, length, IfOk, IfSome, is_ok};
+ghost use Rattle.std.specs.Prelude.{◌≡◌, ℕ, ◌&&◌, false, cond, [], ◌∷◌, length, IfOk, IfSome, is_ok};
 ghost use Rattle.planner_tables.specs.Room.{all_fit, long_enough};
 ghost use Rattle.layers.specs.Refusing.{surcharge_answer};
 ghost use Rattle.networks.specs.Telling.{told};

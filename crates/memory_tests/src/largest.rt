@@ -1,5 +1,6 @@
 //! Each call that asks for memory succeeds at its largest.
 use crate::inputs::{NAME, links, names, network};
+use desks::Desk;
 use networks::building::BuildRefusal;
 use networks::model::Link;
 use networks::network::Network;
@@ -45,5 +46,13 @@ fn owned_network(rt: HostRuntime) -> Result<(), Fail> {
     assert_eq!(rt; network.links(), 2048);
     let one_more = network.add(Link::lit(0, 1, 1, 0, 1));
     assert_eq!(rt; one_more, Err(BuildRefusal::OutsideLimits));
+    Ok(())
+}
+
+#[test]
+fn desk(rt: HostRuntime) -> Result<(), Fail> {
+    let desk = Desk::begin(rt.alloc(), 1, network(rt.alloc())?)?;
+    let board = desk.end();
+    assert_eq!(rt; board.links(), 2048);
     Ok(())
 }

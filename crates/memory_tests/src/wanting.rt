@@ -1,8 +1,10 @@
 //! Memory is used up and comes back a little at a time: each call is right, or wants memory.
 use crate::inputs::{NAME, links, names, network};
+use desks::Desk;
 use grids::{GridPlan, street_grid};
 use networks::building::BuildRefusal;
 use networks::network::Network;
+use networks::owned::OwnedNetwork;
 use records::{WriteFault, push_record};
 use sheet_writing::write;
 use sheets::faults::SheetFault;
@@ -66,6 +68,15 @@ fn reading(heap: Global, bytes: &[u8]) -> Result<bool, bool> {
         .map_err(|fault| fault == SheetFault::Memory)
 }
 
+// A network without links asks for no memory, so what is wanting is the desk's.
+fn desk(heap: Global) -> Result<bool, bool> {
+    let network = OwnedNetwork::empty(heap, 2).map_err(|_refusal| false)?;
+    match Desk::begin(heap, 1, network) {
+        Ok(desk) => Ok(desk.end().sites() == 2),
+        Err(_wanting) => Err(true),
+    }
+}
+
 fn record(heap: Global, payload: &[u8]) -> Result<bool, bool> {
     let mut out = Vec::new(heap);
     push_record(&mut out, 9, payload, &[])
@@ -89,7 +100,7 @@ fn each_call_is_right_or_wants_memory(rt: HostRuntime) -> Result<(), Fail> {
         right: false,
         wanting: false,
         wrong: false,
-    }; 5];
+    }; 6];
     for _ in 0..ROUNDS {
         let written = write(heap, 256, names.as_slice(), links.as_slice())
             .map(|again| again == bytes)
@@ -106,6 +117,7 @@ fn each_call_is_right_or_wants_memory(rt: HostRuntime) -> Result<(), Fail> {
             seen[2].and(added),
             seen[3].and(grid),
             seen[4].and(record(heap, payload.as_slice())),
+            seen[5].and(desk(heap)),
         ];
         drop(spare.pop());
     }
@@ -115,6 +127,6 @@ fn each_call_is_right_or_wants_memory(rt: HostRuntime) -> Result<(), Fail> {
         wanting: true,
         wrong: false,
     };
-    assert_eq!(rt; seen, [both; 5]);
+    assert_eq!(rt; seen, [both; 6]);
     Ok(())
 }

@@ -1,5 +1,5 @@
 //! Judging a sheet: its order, its limits and its count, by a tally of four numbers and no memory.
-ghost use Rattle.std.specs.Prelude.{◌≡◌, ◌≤◌, ◌&&◌, nat_le};
+ghost use Rattle.std.specs.Prelude.{◌≡◌, ◌&&◌, nat_le};
 ghost use Rattle.sheet_format.specs.Rules.{printable};
 ghost use Rattle.sheets.specs.Judging.{Judges};
 
@@ -117,8 +117,7 @@ impl Tally {
     }
 }
 
-// How many sites a sheet has, or its first fault. All rules of order, limits and count are checked
-// here and nowhere else.
+// How many sites a sheet has, or its first fault. No other step of the reader refuses a sheet.
 pub(crate) fn judge(sheet: &[u8]) -> Result<u16, SheetFault>
     ensures { Judges sheet.now result }
 {

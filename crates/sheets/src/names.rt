@@ -1,5 +1,5 @@
 //! The names of a sheet's sites, as bytes that are borrowed from it.
-ghost use Rattle.std.specs.Prelude.{◌≡◌, ◌≤◌, [], ◌∷◌, ◌++◌, Some, None, MatchOption, MatchResult, nat_le};
+ghost use Rattle.std.specs.Prelude.{◌≡◌, ◌≤◌, [], ◌∷◌, ◌++◌, Some, None, MatchOption, MatchResult};
 ghost use Rattle.sheet_format.specs.Rules.{next_site};
 ghost use Rattle.sheets.specs.Naming.{named, name_of};
 
