@@ -3,10 +3,11 @@ use crate::inputs::{NAME, links, names, network};
 use desks::Desk;
 use grids::{GridPlan, street_grid};
 use networks::building::BuildRefusal;
+use networks::model::Link;
 use networks::network::Network;
 use networks::owned::OwnedNetwork;
 use records::{WriteFault, push_record};
-use sheet_writing::write;
+use sheet_writing::{SiteName, write};
 use sheets::faults::SheetFault;
 use sheets::reading::read;
 use std::alloc::{AllocError, Global};
@@ -36,6 +37,12 @@ struct Seen {
 }
 
 impl Seen {
+    const NOTHING: Seen = Seen {
+        right: false,
+        wanting: false,
+        wrong: false,
+    };
+
     // With one round more: whether the answer is right, or whether the error is want of memory.
     fn and(self, told: Result<bool, bool>) -> Seen {
         Seen {
@@ -46,8 +53,9 @@ impl Seen {
     }
 }
 
-// All memory that is left: blocks as large as are given, then smaller ones. None is written to, so
-// that addresses run out and no page is taken from others. An allocator that keeps room of its own
+// All memory that is left: blocks as large as are given, then smaller ones, and in the end those of
+// every size that the allocator keeps by itself. None is written to, so that addresses run out and
+// no page is taken from others. An allocator that keeps room of its own
 // for small blocks, as one that checks each access, is not used up so, and the test fails.
 fn use_up(heap: Global) -> Result<Vec<Vec<u8>>, AllocError> {
     let mut held = Vec::with_capacity(heap, 200_000)?;
@@ -55,7 +63,8 @@ fn use_up(heap: Global) -> Result<Vec<Vec<u8>>, AllocError> {
     for _ in 0..200_000 {
         match Vec::with_capacity(heap, size) {
             Ok(block) => held.push(block)?,
-            Err(_) if size > 1 => size /= 2,
+            Err(_) if size > 4096 => size /= 2,
+            Err(_) if size > 16 => size -= 16,
             Err(_) => break,
         }
     }
@@ -84,6 +93,33 @@ fn record(heap: Global, payload: &[u8]) -> Result<bool, bool> {
         .map_err(|fault| fault == WriteFault::Memory)
 }
 
+// What each call comes to with the memory that there is now.
+fn round(
+    heap: Global,
+    names: &[SiteName],
+    links: &[Link],
+    sheet: &[u8],
+    payload: &[u8],
+) -> [Result<bool, bool>; 6] {
+    let written = write(heap, 256, names, links)
+        .map(|again| again.as_slice() == sheet)
+        .map_err(|fault| fault == WriteFault::Memory);
+    let added = network(heap)
+        .map(|network| network.links() == 2048)
+        .map_err(|why| why == BuildRefusal::Memory);
+    let grid = street_grid(heap, PLAN)
+        .map(|grid| grid.links() == 960)
+        .map_err(|why| why == BuildRefusal::Memory);
+    [
+        reading(heap, sheet),
+        written,
+        added,
+        grid,
+        record(heap, payload),
+        desk(heap),
+    ]
+}
+
 #[test]
 fn each_call_is_right_or_wants_memory(rt: HostRuntime) -> Result<(), Fail> {
     let heap = rt.alloc();
@@ -91,34 +127,21 @@ fn each_call_is_right_or_wants_memory(rt: HostRuntime) -> Result<(), Fail> {
     let links = links(heap)?;
     let bytes = write(heap, 256, names.as_slice(), links.as_slice())?;
     let payload = vec![in heap; 7u8; 65_535]?;
+    let (names, links) = (names.as_slice(), links.as_slice());
     let mut spare = Vec::with_capacity(heap, ROUNDS)?;
     for _ in 0..ROUNDS {
         spare.push(Vec::<u8>::with_capacity(heap, BLOCK)?)?;
     }
+    // Once with all memory: the stack has its pages then, and could have no new ones later.
+    let at_first = round(heap, names, links, bytes.as_slice(), payload.as_slice());
+    assert_eq!(rt; at_first, [Ok(true); 6]);
     let held = use_up(heap)?;
-    let mut seen = [Seen {
-        right: false,
-        wanting: false,
-        wrong: false,
-    }; 6];
+    let mut seen = [Seen::NOTHING; 6];
     for _ in 0..ROUNDS {
-        let written = write(heap, 256, names.as_slice(), links.as_slice())
-            .map(|again| again == bytes)
-            .map_err(|fault| fault == WriteFault::Memory);
-        let added = network(heap)
-            .map(|network| network.links() == 2048)
-            .map_err(|why| why == BuildRefusal::Memory);
-        let grid = street_grid(heap, PLAN)
-            .map(|grid| grid.links() == 960)
-            .map_err(|why| why == BuildRefusal::Memory);
-        seen = [
-            seen[0].and(reading(heap, bytes.as_slice())),
-            seen[1].and(written),
-            seen[2].and(added),
-            seen[3].and(grid),
-            seen[4].and(record(heap, payload.as_slice())),
-            seen[5].and(desk(heap)),
-        ];
+        let told = round(heap, names, links, bytes.as_slice(), payload.as_slice());
+        for (call, answer) in seen.iter_mut().zip(told) {
+            *call = call.and(answer);
+        }
         drop(spare.pop());
     }
     drop(held);
