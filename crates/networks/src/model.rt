@@ -42,10 +42,11 @@ impl Link {
     pub fn is_sound(&self, sites: u16) -> bool
         ensures { result ≡ link_sound sites self.now }
     {
-        let ends = self.start < sites && self.end < sites && self.start != self.end;
-        let lengths = (1..=MOST_METRES).contains(&self.metres) && self.poles <= self.metres;
-        let channels = (1..=MOST_CHANNELS).contains(&self.channels) && self.taken <= self.channels;
-        ends && lengths && channels
+        // `&`, and not `&&`: every link of a sheet is asked this twice, and no branch is faster.
+        let ends = (self.start < sites) & (self.end < sites) & (self.start != self.end);
+        let lengths = (1..=MOST_METRES).contains(&self.metres) & (self.poles <= self.metres);
+        let channels = (1..=MOST_CHANNELS).contains(&self.channels) & (self.taken <= self.channels);
+        ends & lengths & channels
     }
 
     /// Whether the link is lit and has a channel free.

@@ -1,16 +1,18 @@
 -- The names by their sites, and the bytes of one.
-use Rattle.std.proofs.Common.{◌≡◌, ℕ, ◌+◌, ◌<◌, ◌≤◌, Bool, true, false, cond, ◌&&◌, eqb, leb, List, [], ◌∷◌, ◌++◌, map, Some, None, Option, Bor, Less, Greater, MatchOption, sym, refl, ap, ◌∙◌, arith}
-use Rattle.std.specs.List.{list_all}
-use Rattle.std.specs.List.Sorted.{IsStrictlySortedBy}
-use Rattle.std.specs.Map.{keys_of, lookup}
-use Rattle.std.specs.BTreeMap.{insert_entry, is_at}
-use Rattle.std.specs.Ordering.{nat_cmp, is_eq, match_ordering}
-use Rattle.std.specs.Option.{option_map}
+use Rattle.std.proofs.Common.{◌≡◌, ℕ, zero, suc, ◌+◌, ◌<◌, ◌≤◌, Bool, true, false, cond, ◌&&◌, eqb, leb, length, get_or, List, [], ◌∷◌, ◌++◌, map, Some, None, Bor, Less, Equal, Greater, sym, refl, ap, ◌∙◌, subst, arith}
+use Rattle.std.specs.List.{list_all, AllByRecursion, HoldsAt}
+use Rattle.std.specs.List.Sorted.{IsStrictlySortedBy, IsNonDecreasingBy, IsPartitionPoint}
+use Rattle.std.specs.Map.{keys_of}
+use Rattle.std.specs.Ordering.{nat_cmp, ordering_index}
 use Rattle.std.specs.Cmp.{nat_cmp_is}
-use Rattle.std.proofs.lemmas.List.{map_push}
-use Rattle.std.proofs.lemmas.Map.Keys.{sorted_head, sorted_tail}
-use Rattle.std.proofs.lemmas.List.Recursion.{same_from_clauses}
+use Rattle.std.proofs.Math.Logic.{⊎_elim}
+use Rattle.std.proofs.ByRecursion.{All-push}
+use Rattle.std.proofs.lemmas.Bool.{cases_lt}
 use Rattle.std.proofs.lemmas.Bool.Decides.{nat_tests}
+use Rattle.std.proofs.lemmas.Cmp.{ranked}
+use Rattle.std.proofs.lemmas.List.{map_push, length-map}
+use Rattle.std.proofs.lemmas.List.Recursion.{same_from_clauses}
+use Rattle.std.proofs.lemmas.Map.Keys.{sorted_head, sorted_tail, below_from_sorted, non_decreasing_from_sorted}
 use Rattle.sheet_format.specs.Rules.{next_site, printable}
 use Rattle.sheets.specs.Naming.{entry_of, name_of}
 
@@ -29,34 +31,80 @@ above x (e ∷ es) s =
     let rest : e.0 < next_site (e.0 + 1) (map entry_of es) = above e.0 es (sorted_tail nat_cmp x (keys_of (e ∷ es)) s) in
     omega arith
 
--- an entry of a site above the others comes last
-put_last : (from : ℕ) (es : Entries) (site : ℕ) (name : Bor (List ℕ)) → IsStrictlySortedBy nat_cmp (keys_of es) → next_site from (map entry_of es) ≤ site → insert_entry nat_cmp es site name ≡ es ++ (site, name) ∷ []
-put_last from [] site name s h = refl
-put_last from (e ∷ es) site name s h =
+-- no entries are in order
+pub sorted_none : (es : Entries) → es ≡ [] → IsStrictlySortedBy nat_cmp (keys_of es)
+unfolding IsStrictlySortedBy
+sorted_none es is = subst (λ l. IsStrictlySortedBy nat_cmp (keys_of l)) (sym is) tt
+
+-- an entry of a site above the others keeps the order
+pub sorted_more : (from : ℕ) (es : Entries) (site : ℕ) (name : Bor (List ℕ)) → IsStrictlySortedBy nat_cmp (keys_of es) → next_site from (map entry_of es) ≤ site → IsStrictlySortedBy nat_cmp (keys_of (es ++ (site, name) ∷ []))
+unfolding IsStrictlySortedBy
+sorted_more from [] site name s h = (tt, tt)
+sorted_more from (e ∷ es) site name s h =
     let below : e.0 < site = omega (arith, above e.0 es s) in
-    ap (λ o. match_ordering o ((site, name) ∷ e ∷ es) ((e.0, name) ∷ es) (e ∷ insert_entry nat_cmp es site name)) (sym (nat_cmp_is site e.0 Greater below))
-    ∙ ap (λ l. e ∷ l) (put_last (e.0 + 1) es site name (sorted_tail nat_cmp e.0 (keys_of es) s) h)
+    let P : ℕ → Type 0 = λ y. nat_cmp e.0 y ≡ Less in (
+      subst (AllByRecursion P) (sym (map_push (λ x. x.0) es (site, name))) (All-push P (keys_of es) site s.0 (sym (nat_cmp_is e.0 site Less below))),
+      sorted_more (e.0 + 1) es site name s.1 h,
+    )
 
-pub named_more : (es after : Entries) (site : ℕ) (name : Bor (List ℕ)) → IsStrictlySortedBy nat_cmp (keys_of es) → next_site 0 (map entry_of es) ≤ site → after ≡ insert_entry nat_cmp es site name → map entry_of after ≡ map entry_of es ++ (record { site = site; name = name.now }) ∷ []
-named_more es after site name s h is = ap (map entry_of) (is ∙ put_last 0 es site name s h) ∙ map_push entry_of es (site, name)
+-- with or without memory for it
+pub sorted_pushed : (ok : Bool) (es after : Entries) (site : ℕ) (name : Bor (List ℕ)) → IsStrictlySortedBy nat_cmp (keys_of es) → next_site 0 (map entry_of es) ≤ site → after ≡ cond ok (es ++ (site, name) ∷ []) es → IsStrictlySortedBy nat_cmp (keys_of after)
+sorted_pushed true es after site name s h is = subst (λ l. IsStrictlySortedBy nat_cmp (keys_of l)) (sym is) (sorted_more 0 es site name s h)
+sorted_pushed false es after site name s h is = subst (λ l. IsStrictlySortedBy nat_cmp (keys_of l)) (sym is) s
 
-by_test : (b : Bool) (name : Bor (List ℕ)) (o : Option (Bor (List ℕ))) (n : Option (List ℕ)) → n ≡ option_map (λ x. x.now) o → cond b (Some name.now) n ≡ option_map (λ x. x.now) (cond b (Some name) o)
-by_test true name o n h = refl
-by_test false name o n h = h
+-- its name comes last
+pub named_more : (es : Entries) (site : ℕ) (name : Bor (List ℕ)) → map entry_of (es ++ (site, name) ∷ []) ≡ map entry_of es ++ (record { site = site; name = name.now }) ∷ []
+named_more es site name = map_push entry_of es (site, name)
 
-same_test : (a b : ℕ) → eqb b a ≡ is_eq (nat_cmp a b)
-same_test a b = grind (arith, nat_tests)
+-- the site of an entry, by its place
+site_at : (es : Entries) (i : ℕ) (d : ℕ × Bor (List ℕ)) → (get_or es i d).0 ≡ get_or (keys_of es) i d.0
+site_at [] i d = refl
+site_at (e ∷ es) zero d = refl
+site_at (e ∷ es) (suc i) d = site_at es i d
 
--- the name of a site is what the table has at it
-name_at : (es : Entries) (site : ℕ) → name_of (map entry_of es) site ≡ option_map (λ x. x.now) (lookup (is_at (nat_cmp site)) es)
-name_at [] site = refl
-name_at (e ∷ es) site =
-    ap (λ b. cond b (Some e.1.now) (name_of (map entry_of es) site)) (same_test site e.0)
-    ∙ by_test (is_eq (nat_cmp site e.0)) e.1 (lookup (is_at (nat_cmp site)) es) (name_of (map entry_of es) site) (name_at es site)
+-- a site that no entry has bears no name
+none_at : (es : Entries) (site : ℕ) → ((k : ℕ) (d : ℕ × Bor (List ℕ)) → k < length es → (get_or es k d).0 ≡ site → ⊥) → name_of (map entry_of es) site ≡ None
+none_at [] site h = refl
+none_at (e ∷ es) site h =
+    let other : e.0 ≡ site → ⊥ = h 0 e (omega arith) in
+    let apart : eqb e.0 site ≡ false = grind (arith, nat_tests) in
+    ap (λ b. cond b (Some e.1.now) (name_of (map entry_of es) site)) apart
+    ∙ none_at es site (λ k d l same. h (suc k) d (omega arith) same)
 
-pub named_by : (es : Entries) (site : ℕ) (o : Option (Bor (List ℕ))) → o ≡ lookup (is_at (nat_cmp site)) es → MatchOption o (name_of (map entry_of es) site ≡ None) (λ bytes. name_of (map entry_of es) site ≡ Some bytes.now)
-named_by es site None h = name_at es site ∙ ap (option_map (λ x. x.now)) (sym h)
-named_by es site (Some bytes) h = name_at es site ∙ ap (option_map (λ x. x.now)) (sym h)
+-- a site that an entry has bears that entry's name, where the sites rise
+some_at : (es : Entries) (site i : ℕ) (d : ℕ × Bor (List ℕ)) → IsStrictlySortedBy nat_cmp (keys_of es) → i < length es → (get_or es i d).0 ≡ site → name_of (map entry_of es) site ≡ Some (get_or es i d).1.now
+some_at [] site i d s l same = absurd (omega arith)
+some_at (e ∷ es) site zero d s l same =
+    let here : eqb e.0 site ≡ true = grind (arith, nat_tests) in
+    ap (λ b. cond b (Some e.1.now) (name_of (map entry_of es) site)) here
+some_at (e ∷ es) site (suc i) d s l same =
+    let low : e.0 < get_or (keys_of es) i d.0 = below_from_sorted (keys_of (e ∷ es)) 0 (suc i) d.0 s (omega arith) (omega (arith, length-map es (λ x. x.0))) in
+    let other : e.0 ≡ site → ⊥ = λ q. omega (arith, low, site_at es i d, same, q) in
+    let apart : eqb e.0 site ≡ false = grind (arith, nat_tests) in
+    ap (λ b. cond b (Some e.1.now) (name_of (map entry_of es) site)) apart
+    ∙ some_at es site i d (sorted_tail nat_cmp e.0 (keys_of es) s) (omega arith) same
+
+-- the comparisons with a site rise along the entries, as a search by halving asks
+comparisons_rise : (es : Entries) (site : ℕ) → IsStrictlySortedBy nat_cmp (keys_of es) → IsNonDecreasingBy (λ e. ordering_index (nat_cmp e.0 site)) es
+comparisons_rise es site s i j d le l =
+    let up = non_decreasing_from_sorted (keys_of es) s i j d.0 le (omega (arith, length-map es (λ x. x.0))) in
+    let rise : (get_or es i d).0 ≤ (get_or es j d).0 = omega (arith, up, site_at es i d, site_at es j d) in
+    grind (arith, nat_tests)
+
+-- the entry that a search by halving finds bears the site's name
+pub found_name : (es slice : Entries) (site i : ℕ) (one : ℕ × Bor (List ℕ)) → slice ≡ es → IsStrictlySortedBy nat_cmp (keys_of es) → i < length slice → HoldsAt (λ e. nat_cmp e.0 site ≡ Equal) slice i → one ≡ get_or es i one → name_of (map entry_of es) site ≡ Some one.1.now
+found_name es slice site i one is s within equal at =
+    let same : (get_or es i one).0 ≡ site = subst (λ l. (get_or l i one).0 ≡ site) is (ranked _ site _ (sym (equal one))) in
+    some_at es site i one s (subst (λ l. i < length l) is within) same ∙ ap (λ x. Some x.1.now) (sym at)
+
+-- where it finds none, the site bears no name
+pub found_none : (es slice : Entries) (site i : ℕ) → slice ≡ es → IsStrictlySortedBy nat_cmp (keys_of es) → (IsNonDecreasingBy (λ e. ordering_index (nat_cmp e.0 site)) slice → IsPartitionPoint (λ e. nat_cmp e.0 site ≡ Less) (λ e. nat_cmp e.0 site ≡ Greater) slice i) → name_of (map entry_of es) site ≡ None
+found_none es slice site i is s parted =
+    let parts = subst (λ l. IsNonDecreasingBy (λ e. ordering_index (nat_cmp e.0 site)) l → IsPartitionPoint (λ e. nat_cmp e.0 site ≡ Less) (λ e. nat_cmp e.0 site ≡ Greater) l i) is parted (comparisons_rise es site s) in
+    none_at es site (λ k d l same. ⊎_elim
+    (λ low. let less : (get_or es k d).0 < site = ranked _ site _ (sym (parts.0 k d (omega arith) low)) in absurd (omega (arith, less, same)))
+    (λ high. let more : site < (get_or es k d).0 = ranked _ site _ (sym (parts.1 k d high l)) in absurd (omega (arith, more, same)))
+    (cases_lt k i))
 
 -- whether a byte can be printed
 abbrev pub visible : ℕ → Bool

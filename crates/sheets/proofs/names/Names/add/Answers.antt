@@ -1,6 +1,8 @@
--- The new name's site is above the others, so it comes last.
-use Rattle.sheets.proofs.Finding.{named_more}
+-- The new name's site is above the others, so the sites still rise.
+use Rattle.std.specs.Prelude.{is_ok}
+use Rattle.sheets.proofs.Finding.{sorted_pushed}
 use Rattle.sheets.proofs.names.Names.add.Goals as goal
 
-pub returns : goal.returns
-returns c = named_more c.args.self.now.by_site.entries _ c.args.site c.args.name c.insert.ensures.was_ordered c.requires c.in_ok-insert.ensures.entries
+pub invariant_of-self : goal.invariant_of-self
+invariant_of-self c =
+    record { rising = sorted_pushed (is_ok c.push.result) c.args.self.now.by_site.items c.push.new.self.items c.args.site c.args.name c.args.self.now.rising c.requires c.push.ensures.items }
