@@ -1,5 +1,5 @@
 //! What both runs left, and the pair of a target that is read from it.
-ghost use Rattle.std.specs.Prelude.{◌≡◌, ℕ, ◌<◌, ◌≤◌, true, List, length, take, drop, ◌≢◌};
+ghost use Rattle.std.specs.Prelude.{⊤, ◌≡◌, ℕ, ◌<◌, ◌≤◌, true, List, length, take, drop, ◌≢◌};
 ghost use Rattle.least_pairs.specs.Plans.{labelled};
 ghost use Rattle.pairs.specs.Tables.{Tells, Marked};
 ghost use Rattle.pairs.specs.Reading.{second_of, target_marks, walked_back, second_walk, pair_of, Home};
@@ -8,6 +8,7 @@ use crate::tree::Tree;
 use costs::Cost;
 use marks::Marks;
 use networks::network::Network;
+use std::alloc::AllocError;
 
 /// Wipes all marks, and then marks the target, its turn, the turn of that and so on, without the root.
 // Here and below a call that changes marks says that their room stays: of marks of any kind no type can say it.
@@ -36,7 +37,6 @@ fn mark_turns<C: Cost, N: Network, M: Marks>(
 
 /// What both runs left that a pair is read from: the tree links of the first run, and by site the entry link and the turn of the second.
 // Tables side by side: they are those of `RunTables`, plain slices.
-#[derive(Drop)]
 pub struct Tables<'a, N: Network, C: Cost> {
     pub tree: Tree<'a, N, C>,
     pub entry: &'a [u16],
@@ -46,6 +46,18 @@ pub struct Tables<'a, N: Network, C: Cost> {
     pub ghost entry_told: { Tells (N.Network.meaning tree.network.now).sites entry.now (λ l. l.link) (second_of C.Cost.ops (N.Network.meaning tree.network.now) tree.root).labels },
     pub ghost turns_told: { Tells (N.Network.meaning tree.network.now).sites turns.now (λ l. l.turn) (second_of C.Cost.ops (N.Network.meaning tree.network.now) tree.root).labels },
 }
+
+impl<'a, N: Network, C: Cost> Clone for Tables<'a, N, C> {
+    ghost is_clone = { λ x y. y ≡ x };
+
+    ghost is_infallible = { λ _. ⊤ };
+
+    fn clone(&self) -> Result<Tables<'a, N, C>, AllocError> {
+        Ok(*self)
+    }
+}
+
+impl<'a, N: Network, C: Cost> Copy for Tables<'a, N, C> {}
 
 impl<'a, N: Network, C: Cost> Tables<'a, N, C> {
     /// Reads the pair of a target with a second label: writes its two routes, each from the root on, and answers how many links each has.

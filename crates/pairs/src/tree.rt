@@ -1,5 +1,5 @@
 //! The tree links of the first run, and the walks over them.
-ghost use Rattle.std.specs.Prelude.{◌≡◌, ℕ, ◌<◌, ◌≤◌, true, List, length, take, drop};
+ghost use Rattle.std.specs.Prelude.{⊤, ◌≡◌, ℕ, ◌<◌, ◌≤◌, true, List, length, take, drop};
 ghost use Rattle.least_pairs.specs.Plans.{labelled};
 ghost use Rattle.pairs.specs.Tables.{Tells, Marked};
 ghost use Rattle.pairs.specs.Reading.{first_of, second_of, walked_back, tree_route_to, Home};
@@ -8,10 +8,10 @@ use crate::walking::walk_over;
 use costs::Cost;
 use marks::{Bytes, Marks};
 use networks::network::Network;
+use std::alloc::AllocError;
 use std::marker::PhantomData;
 
 /// A network with the tree links, by site, that the first run from a root left there under a kind of costs.
-#[derive(Drop)]
 pub struct Tree<'a, N: Network, C: Cost> {
     pub network: &'a N,
     pub root: u16,
@@ -21,6 +21,18 @@ pub struct Tree<'a, N: Network, C: Cost> {
     pub ghost room: { (N.Network.meaning network.now).sites ≤ length links.now },
     pub ghost told: { Tells (N.Network.meaning network.now).sites links.now (λ l. l.link) (first_of C.Cost.ops (N.Network.meaning network.now) root).labels },
 }
+
+impl<'a, N: Network, C: Cost> Clone for Tree<'a, N, C> {
+    ghost is_clone = { λ x y. y ≡ x };
+
+    ghost is_infallible = { λ _. ⊤ };
+
+    fn clone(&self) -> Result<Tree<'a, N, C>, AllocError> {
+        Ok(*self)
+    }
+}
+
+impl<'a, N: Network, C: Cost> Copy for Tree<'a, N, C> {}
 
 impl<'a, N: Network, C: Cost> Tree<'a, N, C> {
     /// Walks back from a target to the root: from a marked site over its entry link, wiping the mark, else over its tree link. Writes the links passed, from the root on, and answers how many they are.
