@@ -1,5 +1,5 @@
 //! Reading a certificate from bytes.
-ghost use Rattle.std.specs.Prelude.{◌≡◌, ◌/◌, ◌≤◌, true, length};
+ghost use Rattle.std.specs.Prelude.{◌≡◌, ◌/◌, ◌≤◌, ◌==◌, true, length};
 ghost use Rattle.certificates.specs.Format.{Fields, certificate_bytes, links_in};
 ghost use Rattle.certificates.specs.Limits.{within};
 ghost use Rattle.certificates.specs.Calls.{ReadsFields, Reads, Gives};
@@ -56,6 +56,13 @@ fn read_fields(payload: &[u8]) -> Result<CertificateFields, CertificateFault>
     })
 }
 
+// Whether nothing comes behind a record.
+fn is_last(rest: &[u8]) -> bool
+    ensures { result ≡ (length rest.now == 0) }
+{
+    rest.is_empty()
+}
+
 // The certificate that bytes write, or the first rule that they break.
 fn read_record(bytes: &[u8]) -> Result<Certificate, CertificateFault>
     ensures { Reads bytes.now result }
@@ -63,7 +70,7 @@ fn read_record(bytes: &[u8]) -> Result<Certificate, CertificateFault>
     let Some(head) = first_record(bytes) else {
         return Err(CertificateFault::CutShort { place: 0 });
     };
-    if head.kind != KIND || !head.rest.is_empty() {
+    if head.kind != KIND || !is_last(head.rest) {
         return Err(CertificateFault::WrongShape { place: 0 });
     }
     let fields = read_fields(head.payload)?;
