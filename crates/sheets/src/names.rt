@@ -30,7 +30,10 @@ impl<'a> Names<'a> {
     // One name more, of a site above the others; without memory for it the names stay as they were.
     pub(crate) fn add(&mut self, site: u16, name: &'a [u8]) -> Result<(), AllocError>
         requires { next_site 0 (named self.old) ≤ site }
-        ensures { MatchResult result (λ _. named self.new ≡ named self.old ++ (record { site = site; name = name.now }) ∷ []) (λ _. named self.new ≡ named self.old) }
+        ensures { MatchResult result
+            (λ _. named self.new
+            ≡ named self.old ++ (record { site = site; name = name.now }) ∷ [])
+            (λ _. named self.new ≡ named self.old) }
     {
         self.by_site.push((site, name))?;
         Ok(())
@@ -38,7 +41,8 @@ impl<'a> Names<'a> {
 
     /// The name of a site, if the sheet gives one.
     pub fn name(&self, site: u16) -> Option<&'a [u8]>
-        ensures { MatchOption result (name_of (named self.now) site ≡ None) (λ bytes. name_of (named self.now) site ≡ Some bytes.now) }
+        ensures { MatchOption result (name_of (named self.now) site ≡ None)
+            (λ bytes. name_of (named self.now) site ≡ Some bytes.now) }
     {
         match self.by_site.binary_search_by_key(&site, |&(at, _)| at) {
             Ok(place) => Some(self.by_site[place].1),

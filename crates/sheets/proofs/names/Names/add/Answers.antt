@@ -5,4 +5,9 @@ use Rattle.sheets.proofs.names.Names.add.Goals as goal
 
 pub invariant_of-self : goal.invariant_of-self
 invariant_of-self c =
-    record { rising = sorted_pushed (is_ok c.push.result) c.args.self.now.by_site.items c.push.new.self.items c.args.site c.args.name c.args.self.now.rising c.requires c.push.ensures.items }
+    let names = c.args.self.now in
+    let after = c.push.new.self.items in
+    record {
+      rising = sorted_pushed (is_ok c.push.result) names.by_site.items after c.args.site c.args.name
+          names.rising c.requires c.push.ensures.items;
+    }
